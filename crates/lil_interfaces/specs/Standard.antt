@@ -84,6 +84,7 @@ start = record {
   variables = [];
   procedures = [];
   waits = [];
+  coming = [];
   withs = [];
   procedure = None;
 }

@@ -4,9 +4,9 @@ use Rattle.std.proofs.lemmas.List.{get_or_push, take_at, length-append}
 use Rattle.lil_base.specs.declared.fault.Place.{Place}
 use Rattle.lil_types.specs.Types.{Table}
 use Rattle.lil_resolved.specs.declared.resolved.RMember.{RMember}
-use Rattle.lil_report.specs.{declared.report.Fault.Fault, Told.{Row, Said, tell, walk}, Laws.{said_more, said_all}}
+use Rattle.lil_report.specs.{declared.report.Fault.Fault, Told.{Row, Said, tell, walk}, Laws.{said_more, said_all}, Faults.is_apart}
 use Rattle.lil_kinds.specs.declared.found.Found.{Found}
-use Rattle.lil_operators.specs.{declared.sets.{Operand.Operand, Gathered.Gathered}, Operations.{Elements, with_element, joined_one, joined_range, bounds_in, no_tally, gathered, all_gathered, with_gathered, gathered_one, gathered_range, kinds_of, operand_of, elements_tally, set_end, set_node, gathered_set}, Faults.is_apart}
+use Rattle.lil_operators.specs.{declared.sets.{Operand.Operand, Gathered.Gathered}, Operations.{Elements, with_element, joined_one, joined_range, bounds_in, no_tally, gathered, all_gathered, with_gathered, gathered_one, gathered_range, kinds_of, operand_of, elements_tally, set_end, set_node, gathered_set}}
 use Rattle.lil_forms.specs.Values.{single_by, span_by}
 
 -- what a walk gives after one item more

@@ -1,7 +1,7 @@
 -- Operators and sets over operands that have values.
 use Rattle.std.specs.Prelude.{ℕ, ◌+◌, nat_lt, Option, Some, None, if◌then◌else◌, List, ◌-◌, ◌^◌, ℤ, pos, negsuc, int_lt, is_none, Bool, true, false, not, ◌&&◌, [], ◌∷◌, ◌++◌, bit_or}
 use Rattle.lil_base.specs.{declared.{fault.{Place.Place, FaultKind.TheVariants.{Operands, ConstRange, ExprDeep, ConstArith}}, operator.{OneOp.OneOp, TwoOp.{TwoOp, TheVariants.In}}}, Lists.joined}
-use Rattle.lil_report.specs.{declared.report.Fault.Fault, Told.{Row, row, after, walk, tell}}
+use Rattle.lil_report.specs.{declared.report.Fault.Fault, Told.{Row, row, rows_of, after, walk, tell}}
 use Rattle.lil_scope.specs.declared.thing.Kind.{Kind}
 use Rattle.lil_kinds.specs.{declared.found.{Form.Form, Found.Found, Applied.{Applied, TheVariants.{Refused, Outside, Gives}}}, Forms.{set_base, element_span}, Kinds.{compatible, number, outside}, Operators.{one, two, operand_type}}
 use Rattle.lil_kinds.specs.declared.found.Form.TheVariants as form
@@ -191,10 +191,6 @@ set_node types p (Some s) None = (None, [])
 set_node types p (Some s) (Some es) = set_of types p s es
 
 -- the same set of elements that were gathered: what their tests found is one test
-abbrev pub rows_of : Option Fault → List Row
-rows_of None = []
-rows_of (Some f) = row true f.place f.kind ∷ []
-
 abbrev pub gathered_of : Table → Place → ℕ → Gathered → Meaning
 gathered_of types p s g = after (g.tally, rows_of g.report) (set_end types p s g.forms)
 

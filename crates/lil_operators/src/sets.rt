@@ -333,17 +333,6 @@ fn set_end(
     }
 }
 
-/// What other tests found.
-#[tactic(auto, unfolding(lil_report::specs::Told::tell))]
-fn note_all(report: &mut Report, others: &Report)
-    ensures { report.new ≡ tell report.old (spec.rows_of others.now) }
-{
-    match others.worst() {
-        None => (),
-        Some(fault) => report.note(true, fault.place, fault.kind),
-    }
-}
-
 /// A set whose type and whose elements have values.
 fn set_given(
     types: &TypeTable,
@@ -354,7 +343,7 @@ fn set_given(
 ) -> Option<Found>
     ensures { Said (spec.gathered_of types.now first sort elements) report.old result report.new }
 {
-    note_all(report, &elements.report);
+    report.note_all(&elements.report);
     set_end(types, report, first, sort, elements.forms, elements.tally)
 }
 

@@ -1,7 +1,7 @@
 -- The tests of a phrase, and the faults that stand in it.
-use Rattle.std.specs.Prelude.{◌≡◌, ◌⊎◌, Bool, true, List, [], ◌∷◌, ◌++◌, Option}
+use Rattle.std.specs.Prelude.{◌≡◌, ◌⊎◌, Bool, true, List, [], ◌∷◌, ◌++◌, Option, Some, None, is_none}
 use Rattle.lil_base.specs.declared.fault.{Place.Place, FaultKind.FaultKind}
-use Rattle.lil_report.specs.{declared.report.Fault.Fault, Least.{worse, when}}
+use Rattle.lil_report.specs.{declared.report.Fault.Fault, Least.{worse, when, now_of}}
 
 -- a test of a node: what is wrong there is this fault
 pub record Row : Type 0 where
@@ -24,6 +24,15 @@ noted o r = worse o (when r.wrong r.place r.kind)
 unfoldable pub tell : Option Fault → List Row → Option Fault
 tell o [] = o
 tell o (r ∷ rs) = tell (noted o r) rs
+
+-- what other tests found, as one test
+abbrev pub rows_of : Option Fault → List Row
+rows_of None = []
+rows_of (Some f) = row true f.place f.kind ∷ []
+
+-- no test finds a fault, or none but a form that isn't built
+abbrev pub has_no_fault : List Row → Bool
+has_no_fault rs = is_none (now_of (tell None rs))
 
 -- what a phrase means: a value, and the tests of its nodes
 abbrev pub Told : Type 0 → Type 0

@@ -1,6 +1,6 @@
 ghost use Rattle.std.specs.Prelude.{◌≡◌, None};
 ghost use Rattle.lil_report.specs.Least as spec;
-ghost use Rattle.lil_report.specs.Told.{row, noted};
+ghost use Rattle.lil_report.specs.Told.{row, rows_of, noted, tell};
 
 use lil_base::{FaultKind, Place};
 use std::marker::Model;
@@ -112,5 +112,16 @@ impl Report {
             None
         };
         self.worst = worse(self.worst, found);
+    }
+
+    /// What other tests found.
+    #[tactic(auto, unfolding(crate::specs::Told::tell))]
+    pub fn note_all(&mut self, others: &Report)
+        ensures { self.new ≡ tell self.old (rows_of others.now) }
+    {
+        match others.worst() {
+            None => (),
+            Some(fault) => self.note(true, fault.place, fault.kind),
+        }
     }
 }

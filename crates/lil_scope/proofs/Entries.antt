@@ -1,8 +1,9 @@
--- A block as an indexmap has it.
-use Rattle.std.proofs.Common.{◌≡◌, ℕ, Bool, true, false, not, cond, List, [], ◌∷◌, ◌++◌, map, Option, Some, None, is_some, is_none, refl, ap, nat_eq}
-use Rattle.indexmap.specs.IndexMap.{insert_entry}
-use Rattle.std.specs.{Cmp.Lexicographic.pointwise, Map.lookup, declared.{vec.Vec.Vec, alloc.Global.Global}}
-use Rattle.lil_scope.specs.{declared.thing.Entry.Entry, Names.{entry_in, place_of, place_in, same, is_new, bound}}
+-- A block, and the names of its types, as an indexmap has them.
+use Rattle.std.proofs.Common.{◌≡◌, ℕ, Bool, true, false, not, ◌||◌, cond, if◌then◌else◌, List, [], ◌∷◌, ◌++◌, map, Option, Some, None, is_some, is_none, refl, ap, ◌∙◌, nat_eq}
+use Rattle.std.proofs.lemmas.List.{map-append}
+use Rattle.indexmap.specs.{IndexMap.insert_entry, IndexSet.insert_key}
+use Rattle.std.specs.{Cmp.Lexicographic.pointwise, List.list_any, Map.lookup, declared.{vec.Vec.Vec, alloc.Global.Global}}
+use Rattle.lil_scope.specs.{declared.thing.Entry.Entry, Names.{entry_in, place_of, place_in, same, is_new, bound, is_among, and_name}}
 
 pub look_map : (n : List ℕ) (es : List (Vec ℕ Global × Entry)) → lookup (λ k. pointwise nat_eq n k.items) es ≡ entry_in (map (λ p. (p.0.items, p.1)) es) n
 look_map n [] = refl
@@ -39,3 +40,21 @@ twice_by (Some e) = refl
 pub is_twice : (b : List (List ℕ × Entry)) (n : List ℕ) → is_some (place_in b n) ≡ not (is_new b n)
 unfolding is_new
 is_twice b n = twice_by (entry_in b n)
+
+-- ---- the names of types that are declared later
+abbrev pub bytes : Vec ℕ Global → List ℕ
+bytes n = n.items
+
+pub among_map : (n : List ℕ) (ks : List (Vec ℕ Global)) → list_any (λ k. pointwise nat_eq n k.items) ks ≡ is_among (map bytes ks) n
+among_map n [] = refl
+among_map n (k ∷ ks) = λ j. same n k.items || among_map n ks j
+
+pub add_map : (k : Vec ℕ Global) (ks : List (Vec ℕ Global)) → map bytes (insert_key (λ a b. pointwise nat_eq a.items b.items) ks k) ≡ and_name (map bytes ks) k.items
+add_map k ks = by (list_any (λ b. pointwise nat_eq k.items b.items) ks) (among_map k.items ks)
+  where
+    names : List (List ℕ)
+    names = map bytes ks
+
+    by : (c : Bool) → c ≡ is_among names k.items → map bytes (if c then ks else ks ++ k ∷ []) ≡ and_name names k.items
+    by true is = ap (λ c. if c then names else names ++ k.items ∷ []) is
+    by false is = map-append bytes ks (k ∷ []) ∙ ap (λ c. if c then names else names ++ k.items ∷ []) is

@@ -1,11 +1,11 @@
 -- What names stand for in a list of blocks. A block is a list of names, in the order of declaration, each with what it stands for
 -- and the place where it is bound.
-use Rattle.std.specs.Prelude.{ℕ, is_none, slice_get, slice_set, nat_lt, length, Bool, not, List, [], ◌∷◌, ◌++◌, Option, Some, None, if◌then◌else◌, nat_eq}
-use Rattle.std.specs.Cmp.Lexicographic.{pointwise}
+use Rattle.std.specs.Prelude.{ℕ, is_none, slice_get, slice_set, nat_lt, length, Bool, not, List, [], ◌∷◌, ◌++◌, Option, Some, None, if◌then◌else◌, nat_eq, ◌==◌, ◌&&◌}
+use Rattle.std.specs.{Cmp.Lexicographic.pointwise, List.list_any}
 use Rattle.lil_base.specs.declared.fault.{Place.Place, FaultKind.TheVariants.Twice}
 use Rattle.lil_text.specs.declared.tree.Ident.{Ident}
 use Rattle.lil_report.specs.Told.{Row, row}
-use Rattle.lil_scope.specs.declared.{thing.{Entry.Entry, Thing.Thing}, env.Env.Env, scope.Scopes.Scopes}
+use Rattle.lil_scope.specs.declared.{thing.{Entry.Entry, Thing.Thing}, env.{Env.Env, Wait.Wait}, scope.Scopes.Scopes}
 
 abbrev pub same : List ℕ → List ℕ → Bool
 same a b = pointwise nat_eq a b
@@ -92,6 +92,24 @@ bind_at k e i t = (
 abbrev pub bind : Env → Ident → Thing → Env × List Row
 bind e i t = bind_at e.scopes.inner e i t
 
+-- ---- pointers whose target the block at hand declares later: nothing lies behind them until its declarations end
+-- the names of the types that a block declares, each once
+abbrev pub is_among : List (List ℕ) → List ℕ → Bool
+is_among ns n = list_any (same n) ns
+
+abbrev pub and_name : List (List ℕ) → List ℕ → List (List ℕ)
+and_name ns n = if is_among ns n then ns else ns ++ n ∷ []
+
+-- a type of this name isn't declared in the block yet, and will be
+abbrev pub is_later : Env → List ℕ → Bool
+is_later e n = is_none (look_in (block_at e.scopes.blocks e.scopes.inner) n) && is_among e.coming n
+
+abbrev pub is_wait_for : ℕ → Wait → Bool
+is_wait_for p w = w.pointer == p && w.later
+
+abbrev pub waits_for : Env → ℕ → Bool
+waits_for e p = list_any (is_wait_for p) e.waits
+
 -- ---- blocks: one begun without names, entered, and left for the block around
 abbrev pub with_block : Env → Env
 with_block e = with_blocks e (e.scopes.blocks ++ [] ∷ [])
@@ -101,8 +119,8 @@ abbrev pub level : Env → ℕ
 level e = length e.scopes.outer
 
 abbrev pub inside : ℕ → Option ℕ → Env → Env
-inside k p e = record e { scopes = record e.scopes { outer = e.scopes.outer ++ e.scopes.inner ∷ []; inner = k }; waits = []; withs = []; procedure = p }
+inside k p e = record e { scopes = record e.scopes { outer = e.scopes.outer ++ e.scopes.inner ∷ []; inner = k }; waits = []; coming = []; withs = []; procedure = p }
 
 -- what was declared inside, and the block at hand as it was in e
 abbrev pub outside : Env → Env → Env
-outside e f = record f { scopes = record f.scopes { outer = e.scopes.outer; inner = e.scopes.inner }; waits = e.waits; withs = e.withs; procedure = e.procedure }
+outside e f = record f { scopes = record f.scopes { outer = e.scopes.outer; inner = e.scopes.inner }; waits = e.waits; coming = e.coming; withs = e.withs; procedure = e.procedure }

@@ -1,6 +1,7 @@
 ghost use Rattle.std.specs.Prelude.{◌≡◌, ◌++◌, ◌∷◌, [], length, slice_get, OnOk, OnErr, MatchOption};
 ghost use Rattle.std.specs.Option.{option_copied};
 
+use crate::coming::Coming;
 use crate::scope::Scopes;
 use lil_base::{Items, Memory, Name, Place, Shared, Text};
 use lil_declared::{RProc, RVar};
@@ -8,12 +9,14 @@ use lil_types::{TypeId, TypeTable};
 use std::alloc::Global;
 use std::marker::Model;
 
-/// A pointer type whose target is a bare name: it is looked up at the end of its block's declarations.
+/// A pointer type whose target is a bare name: it is looked up at the end of its block's declarations. Until then nothing lies
+/// behind it if the block declares the target later.
 #[derive(Drop)]
 pub struct Wait {
     pub pointer: TypeId,
     pub place: Place,
     pub name: Name,
+    pub later: bool,
 }
 
 /// The types of the records of all WITH around a statement, the outermost first.
@@ -63,8 +66,8 @@ impl Withs {
 }
 
 /// All that is declared so far: the names, the types, the texts of constants, the variables and procedures of the module and of
-/// all its procedures, the pointers that wait for the end of the block at hand, the records of the WITH around, and the procedure
-/// at hand, if it isn't the module's body.
+/// all its procedures, the pointers that wait for the end of the block at hand, the names of the types that it declares, the records
+/// of the WITH around, and the procedure at hand, if it isn't the module's body.
 #[derive(Drop)]
 pub struct Env {
     pub scopes: Scopes,
@@ -73,6 +76,7 @@ pub struct Env {
     pub variables: Items<RVar>,
     pub procedures: Items<RProc>,
     pub waits: Items<Wait>,
+    pub coming: Coming,
     pub withs: Withs,
     pub procedure: Option<usize>,
 }

@@ -2,13 +2,15 @@
 #![tactic(auto)]
 
 mod built;
+mod coming;
 mod env;
 mod names;
 mod scope;
 mod thing;
 
 pub use built::is_built;
+pub use coming::Coming;
 pub use env::{Env, Wait, Withs};
-pub use names::{bind, bind_at, find_in};
+pub use names::{bind, bind_at, find_in, is_later, waits_for};
 pub use scope::{Block, Blocks, Scopes};
 pub use thing::{Chars, Entry, Kind, Routine, Thing, Variable};

@@ -2,12 +2,13 @@ ghost use Rattle.std.specs.Prelude.{◌≡◌, IfOk};
 ghost use Rattle.lil_report.specs.Told.{Said};
 ghost use Rattle.lil_scope.specs.Names as spec;
 
-use crate::env::Env;
+use crate::env::{Env, Wait};
 use crate::scope::Scopes;
 use crate::thing::{Entry, Thing};
 use lil_base::{FaultKind, Memory, Name, Place};
 use lil_report::Report;
 use lil_text::Ident;
+use lil_types::TypeId;
 use std::alloc::Global;
 
 /// The later one of two places of a text.
@@ -61,4 +62,26 @@ pub fn find_in(scopes: &Scopes, owner: usize, name: &Name) -> Option<Thing>
     ensures { result ≡ spec.member scopes.now owner name.now }
 {
     scopes.blocks.find(owner, name)
+}
+
+/// Whether the block at hand declares a type of this name later.
+pub fn is_later(env: &Env, name: &Name) -> bool
+    ensures { result ≡ spec.is_later env.now name.now }
+{
+    let found = env.scopes.blocks.find(env.scopes.inner, name);
+    found.is_none() && env.coming.has(name)
+}
+
+fn is_wait_for(pointer: TypeId, wait: &Wait) -> bool
+    ensures { result ≡ spec.is_wait_for pointer wait.now }
+{
+    wait.pointer == pointer && wait.later
+}
+
+/// Whether the block at hand declares a pointer's target later.
+pub fn waits_for(env: &Env, pointer: TypeId) -> bool
+    ensures { result ≡ spec.waits_for env.now pointer }
+{
+    let waits = env.waits.as_slice();
+    waits.iter().any(|wait| is_wait_for(pointer, wait))
 }

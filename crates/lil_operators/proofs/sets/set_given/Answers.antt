@@ -1,6 +1,6 @@
 use Rattle.std.proofs.Common.{refl}
-use Rattle.lil_report.specs.Laws.{said_after}
-use Rattle.lil_operators.specs.Operations.{rows_of, set_end}
+use Rattle.lil_report.specs.{Told.rows_of, Laws.said_after}
+use Rattle.lil_operators.specs.Operations.{set_end}
 use Rattle.lil_operators.proofs.sets.set_given.Goals as goal
 
 pub returns : goal.returns

@@ -1,7 +1,6 @@
 -- The fault of tests that is kept apart speaks beside others as the tests do.
 use Rattle.std.proofs.Common.{◌≡◌, ◌∷◌, Bool, true, false, List, [], Option, Some, None, if◌then◌else◌, refl, sym, ap, ◌∙◌}
-use Rattle.lil_report.specs.{declared.report.Fault.Fault, Least.{is_up_to, least, worse, when}, LeastLaws.{up_no, up_trans}, Told.{Row, Said, noted, tell, after}, Laws.tell_append}
-use Rattle.lil_operators.specs.Operations.{rows_of}
+use Rattle.lil_report.specs.{declared.report.Fault.Fault, Least.{is_up_to, least, worse, when}, LeastLaws.{up_no, up_trans}, Told.{Row, Said, rows_of, noted, tell, after}, Laws.tell_append}
 
 apart : (b : Bool) → b ≡ true → b ≡ false → ⊥
 apart b p q = cc
@@ -52,7 +51,7 @@ unfolding tell when
 rows_told a None = sym (worse_none a)
 rows_told a (Some f) = refl
 
-apart_told : (a : Option Fault) (rs : List Row) → tell a (rows_of (tell None rs)) ≡ tell a rs
+pub apart_told : (a : Option Fault) (rs : List Row) → tell a (rows_of (tell None rs)) ≡ tell a rs
 apart_told a rs = rows_told a (tell None rs) ∙ (sym (tell_both a None rs) ∙ ap (λ o. tell o rs) (worse_none a))
 
 pub is_apart : {A B : Type 0} (m : A × List Row) (k : A → B × List Row) {r t : Option Fault} {b : B} → Said (after (m.0, rows_of (tell None m.1)) k) r b t → Said (after m k) r b t
