@@ -2,13 +2,12 @@
 use Rattle.std.proofs.Common.{◌≡◌, ℕ, suc, ◌+◌, ◌<◌, ◌≤◌, Option, Some, None, List, [], ◌∷◌, map, length, ⊎_elim, refl, sym, ap, ◌∙◌, subst, arith, eq-eqb}
 use Rattle.std.proofs.lemmas.Bool.{cases_lt}
 use Rattle.lil_base.specs.declared.fault.TrapKind.TheVariants as trap
-use Rattle.lil_resolved.specs.Resolved.{Halt, Return}
+use Rattle.lil_resolved.specs.{Kinds.Shape, Resolved.{Halt, Return}}
 use Rattle.lil_meaning.specs.{World.{World, closing, all_closed}, Closings.{all_none, all_some}, Items.{Do, Turns, Holding, End, Item, Perform, Level, Going, Closing, Ended, Source}, Steps.{next, returned, left_by, over}}
 use Rattle.lil_asm.specs.declared.instr.Instr.TheVariants.{Rtn, Trp}
-use Rattle.lil_mcode.specs.{declared.machine.Event.TheVariants.LevelEnded, Table.{Module, Kept, State, end_row}}
+use Rattle.lil_mcode.specs.{declared.machine.Event.TheVariants.LevelEnded, Table.{Kept, State, end_row}}
 use Rattle.lil_table.specs.Rows.{IsAt, loop_place}
-use Rattle.lil_match.specs.{Goes.{Stands, number_of, Shared, Lands, Goes}, Running.{Finished, Run, running, advanced}, Parts.yes, Waits.{stutter, Mode, Quiet, Around, outside, Frame, Setting, with_frames, RowsOf, Rows, Ahead, Behind, EndWaits, EndedWaits, Waiting}, Steps.{closed, advances, at_step, at_once, lands_on, goes_none, goes_none_within, goes_one_within}}
-use Rattle.lil_match.specs.Laid.{IsAround, around_self, around_more, shared_around, goes_around}
+use Rattle.lil_match.specs.{Goes.{Stands, number_of, Shared, Lands, Goes}, Running.{Finished, Run, running, advanced}, Parts.yes, Waits.{stutter, Mode, Quiet, Around, outside, Frame, Setting, inside_with, with_frames, RowsOf, Rows, Ahead, Behind, EndWaits, EndedWaits, Waiting}, Steps.{closed, advances, at_step, lands_on, goes_more, goes_as, goes_none, goes_one_within}}
 use Rattle.lil_laws_place.specs.Codes.{trap_goes}
 use Rattle.lil_laws_stmt.specs.{Returns.goes_back, Bodies.{goes_next, goes_short}}
 
@@ -25,23 +24,28 @@ module _ (ctx : Setting) where
       (at_step ctx m shared.program (Trp 9) row.part.end row.part.here)
       (omega arith)
 
-  -- the end of the running frame, by what is behind it
-  pub end_goes : (s : Source) (k : List Item) (m : State) (c : ℕ) (a : Around) → Shared ctx s m → (n : ℕ) → EndWaits ctx n k (RowsOf k) Quiet m.place m.stack c a → Goes ctx s (Perform (End n) ∷ k) m (c + 32)
-  end_goes s k m c a shared n row = by ctx.stack.callers ctx.stack.bodies shared row.behind
+  -- the running frame ends at an RTN, by what is behind its end
+  leave_goes : (s : Source) (k : List Item) (m : State) (c : ℕ) → Shared ctx s m → (n end : ℕ) → IsAt ctx.stack.frame.own.code m.place Rtn end → m.stack ≡ [] → Behind ctx k (RowsOf k) c ctx.stack.callers ctx.stack.bodies
+      → Goes ctx s (Perform (End n) ∷ k) m (c + 32)
+  leave_goes s k m c shared n end leave empty behind = by ctx.stack.callers ctx.stack.bodies shared behind
     where
       by : (gs bs : List Frame) → Shared (with_frames ctx ctx.stack.frame gs bs) s m → Behind (with_frames ctx ctx.stack.frame gs bs) k (RowsOf k) c gs bs
           → Goes (with_frames ctx ctx.stack.frame gs bs) s (Perform (End n) ∷ k) m (c + 32)
-      by (g ∷ gs) bs there back = goes_back ctx ctx.stack.frame g gs bs s m there n k c row.end row.leave row.empty back
+      by (g ∷ gs) bs there back = goes_back ctx ctx.stack.frame g gs bs s m there n k c end leave empty back
       by [] (b ∷ bs) there next =
-          ⊎_elim (λ (less : ctx.stack.limit < b.at + b.layout.frame). goes_short ctx ctx.stack.frame b bs s m there n k c row.end row.leave next less)
-          (λ (room : b.at + b.layout.frame ≤ ctx.stack.limit). goes_next ctx ctx.stack.frame b bs s m there n k c row.end row.leave next room)
+          ⊎_elim (λ (less : ctx.stack.limit < b.at + b.layout.frame). goes_short ctx ctx.stack.frame b bs s m there n k c end leave next less)
+          (λ (room : b.at + b.layout.frame ≤ ctx.stack.limit). goes_next ctx ctx.stack.frame b bs s m there n k c end leave next room)
           (cases_lt ctx.stack.limit (b.at + b.layout.frame))
       by [] [] there last =
           goes_none (with_frames ctx ctx.stack.frame [] []) s (Perform (End n) ∷ k) m 32 c
-          (lands_on (with_frames ctx ctx.stack.frame [] []) s m there k m.place m.stack c a
-          (subst (λ (x : List Item). Ahead (with_frames ctx ctx.stack.frame [] []) x Quiet m.place m.stack c a) (sym last)
-          (record { empty = row.empty; callers = refl; bodies = refl; end = row.end; leave = row.leave })))
+          (lands_on (with_frames ctx ctx.stack.frame [] []) s m there k m.place m.stack c outside
+          (subst (λ (x : List Item). Ahead (with_frames ctx ctx.stack.frame [] []) x Quiet m.place m.stack c outside) (sym last)
+          (record { empty = empty; callers = refl; bodies = refl; end = end; leave = leave })))
           (omega arith)
+
+  -- the end of the running frame is at hand
+  pub end_goes : (s : Source) (k : List Item) (m : State) (c : ℕ) (a : Around) → Shared ctx s m → (n : ℕ) → EndWaits ctx n k (RowsOf k) Quiet m.place m.stack c a → Goes ctx s (Perform (End n) ∷ k) m (c + 32)
+  end_goes s k m c a shared n row = leave_goes s k m c shared n row.end row.leave row.empty row.behind
 
   -- nothing is left
   pub ended_goes : (s : Source) (m : State) (c : ℕ) (a : Around) → Shared ctx s m → EndedWaits ctx Quiet m.place m.stack c a → Goes ctx s [] m (c + 32)
@@ -81,71 +85,46 @@ module _ (ctx : Setting) where
           ends (record now { phase = Ended }) (first_level ∙ ap (λ (o : Option World). left_by None o now) e ∙ ap (λ (l : List Level). over l None now) shared.levels.none)
           (record { finish = refl; world = all_none 1 s.world e })
 
--- where items that have rows go on behind the end of the running frame, with at most so many jumps owed, in what is around the WITHs that they leave
-pub record Returns (ctx : Setting) (k : List Item) (c : ℕ) : Type 0 where
-  pub before : Setting
-  pub deep : IsAround before ctx
-  pub free : before.stack.frame.layout.held ≡ []
-  pub rest : List Item
-  pub is : returned k ≡ Perform (End before.stack.frame.activation) ∷ rest
+-- what the end of the running frame leads to, where these items are behind it, with at most so many jumps owed
+pub record Returns (ctx : Setting) (rest : List Item) (c : ℕ) : Type 0 where
   pub later : ℕ
   pub less : later ≤ c
-  pub behind : Behind before rest (RowsOf rest) later before.stack.callers before.stack.bodies
+  pub behind : Behind ctx rest (RowsOf rest) later ctx.stack.callers ctx.stack.bodies
 
-more : (ctx : Setting) (k i : List Item) (c later : ℕ) → later ≤ c → returned i ≡ returned k → Returns ctx k later → Returns ctx i c
-more ctx k i c later le same r =
-    record { before = r.before; deep = r.deep; free = r.free; rest = r.rest; is = same ∙ r.is; later = r.later; less = omega (arith, le, r.less); behind = r.behind }
+-- jumps before
+sooner : (ctx : Setting) (rest : List Item) (c later : ℕ) → later ≤ c → Returns ctx rest later → Returns ctx rest c
+sooner ctx rest c later le r = record { later = r.later; less = omega (arith, le, r.less); behind = r.behind }
 
-returns : (ctx : Setting) (k : List Item) (t : Mode) (p : ℕ) (stack : List ℕ) (c : ℕ) (a : Around) → Rows ctx k t p stack c a → Returns ctx k c
+-- it is the same inside of a WITH
+behind_inside : (before : Setting) (t : Shape) (n : ℕ) (k : List Item) (c : ℕ) (gs bs : List Frame) → Behind before k (RowsOf k) c gs bs → Behind (inside_with before t n) k (RowsOf k) c gs bs
+behind_inside before t n k c (g ∷ gs) bs b = record { before = b.before; called = b.called; outer = b.outer; under = b.under; frame = b.frame; place = b.place; module' = b.module'; then = b.then }
+behind_inside before t n k c [] (b ∷ bs) x = record { body = x.body; low = x.low; start = x.start; enter = x.enter; then = x.then }
+behind_inside before t n k c [] [] last = last
+
+returns_inside : (ctx before : Setting) (t : Shape) (n : ℕ) (rest : List Item) (c : ℕ) → ctx ≡ inside_with before t n → Returns before rest c → Returns ctx rest c
+returns_inside ctx before t n rest c is r =
+    subst (λ (y : Setting). Returns y rest c) (sym is)
+    (record { later = r.later; less = r.less; behind = behind_inside before t n rest r.later before.stack.callers before.stack.bodies r.behind })
+
+-- from the row of any items
+returns : (ctx : Setting) (k : List Item) (t : Mode) (p : ℕ) (stack : List ℕ) (c : ℕ) (a : Around) → Rows ctx k t p stack c a → Returns ctx (returned k) c
 returns ctx [] t p stack c a r = absurd r
 returns ctx (Perform (Turns x kind z step left body) ∷ k) t p stack c a r =
-    more ctx k (Perform (Turns x kind z step left body) ∷ k) c r.later (omega (arith, r.count)) refl (⊎_elim (λ b. returns ctx k _ _ _ _ _ b.then) (λ n. returns ctx k _ _ _ _ _ n.then) r.there)
+    sooner ctx (returned k) c r.later (omega (arith, r.count)) (⊎_elim (λ b. returns ctx k _ _ _ _ _ b.then) (λ n. returns ctx k _ _ _ _ _ n.then) r.there)
 returns ctx (Perform (Holding place) ∷ k) t p stack c a r =
     let w = r.there in
-    let y = returns w.before k _ _ _ _ _ w.then in
-    record {
-      before = y.before;
-      deep = around_more y.before w.before ctx w.shape (loop_place w.outer.taken) w.is y.deep;
-      free = y.free;
-      rest = y.rest;
-      is = y.is;
-      later = y.later;
-      less = omega (arith, r.count, y.less);
-      behind = y.behind;
-    }
-returns ctx (Perform (End n) ∷ k) t p stack c a r =
-    record {
-      before = ctx;
-      deep = around_self ctx;
-      free = r.there.free;
-      rest = k;
-      is = ap (λ (x : ℕ). Perform (End x) ∷ k) r.there.activation;
-      later = r.later;
-      less = omega (arith, r.count);
-      behind = r.there.behind;
-    }
-returns ctx (i ∷ k) t p stack c a r = more ctx k (i ∷ k) c r.later (omega (arith, r.count)) refl (returns ctx k _ _ _ _ _ r.there.then)
+    sooner ctx (returned k) c r.later (omega (arith, r.count))
+    (returns_inside ctx w.before w.shape (loop_place w.outer.taken) (returned k) r.later w.is (returns w.before k _ _ _ _ _ w.then))
+returns ctx (Perform (End n) ∷ k) t p stack c a r = record { later = r.later; less = omega (arith, r.count); behind = r.there.behind }
+returns ctx (i ∷ k) t p stack c a r = sooner ctx (returned k) c r.later (omega (arith, r.count)) (returns ctx k _ _ _ _ _ r.there.then)
 
--- the machine is at a return, as at the end of the body
+-- RETURN is an end: its own RTN is the frame's, and what is left is behind the first end
 pub return_goes : (ctx : Setting) (s : Source) (k : List Item) (m : State) (c : ℕ) (a : Around) → Shared ctx s m → Waiting ctx (Perform (Do Return)) (Rows ctx k) Quiet m.place m.stack c a
     → Goes ctx s (Perform (Do Return) ∷ k) m (c + 32)
 return_goes ctx s k m c a shared row =
     let r = returns ctx k _ _ _ _ _ row.then in
-    let code : ctx.stack.frame.own ≡ r.before.stack.frame.own = ap (λ (x : Setting). x.stack.frame.own) r.deep.is in
-    goes_around r.before ctx r.deep s (Perform (Do Return) ∷ k) m (c + 32)
-    (goes_none_within r.before s (Perform (Do Return) ∷ k) m (c + 32) r.later
-    (lands_on r.before s m (shared_around r.before ctx r.deep s m shared) (returned k) m.place m.stack r.later outside
-    (subst (λ (x : List Item). Ahead r.before x Quiet m.place m.stack r.later outside) (sym r.is)
-    (at_once r.before _ Quiet m.place m.stack r.later outside
-    (record {
-      quiet = refl;
-      empty = row.part.empty;
-      activation = refl;
-      alone = refl;
-      free = r.free;
-      end = row.part.end;
-      leave = subst (λ (o : Module). IsAt o.code m.place Rtn row.part.end) code row.part.here;
-      behind = r.behind;
-    }))))
-    (omega (arith, r.less))
-    (omega (arith, returned_less k)))
+    let at : ℕ = ctx.stack.frame.activation in
+    goes_as ctx s (Perform (End at) ∷ returned k) (Perform (Do Return) ∷ k) m (c + 32) refl (omega (arith, returned_less k))
+    (goes_more ctx s (Perform (End at) ∷ returned k) m (r.later + 32) (c + 32)
+    (leave_goes ctx s (returned k) m r.later shared at row.part.end row.part.here row.part.empty r.behind)
+    (omega (arith, r.less)))

@@ -216,6 +216,25 @@ module _ (ctx : Setting) where
   goes_more s k m less more g rises =
       record { steps = g.steps; later = g.later; activations = g.activations; home = g.home; stack = g.stack; quiet = g.quiet; lands = g.lands; touch = g.touch; same = g.same; grown = g.grown; cost = omega (arith, g.cost, rises); falls = g.falls }
 
+  -- from other items that stutter no less, and whose step is the same
+  pub goes_as : (s : Source) (i k : List Item) (m : State) (budget : ℕ) → next library (record s { items = k; phase = Going }) ≡ next library (record s { items = i; phase = Going }) → stutter i ≤ stutter k
+      → Goes ctx s i m budget → Goes ctx s k m budget
+  goes_as s i k m budget step no_less g = record {
+    steps = g.steps;
+    later = g.later;
+    activations = g.activations;
+    home = g.home;
+    stack = g.stack;
+    quiet = g.quiet;
+    lands = ⊎_elim (λ l. inl (subst (λ (t : Source). Lands (record ctx { activations = g.activations; home = g.home; stack = g.stack }) t.phase t (mrun g.steps (running m s.world)) g.later) (sym step) l))
+        (λ f. inr (record { kind = f.kind; finish = f.finish; world = f.world; short = subst (λ (t : Source). Short library st.base t f.kind) (sym step) f.short })) g.lands;
+    touch = g.touch;
+    same = g.same;
+    grown = g.grown;
+    cost = g.cost;
+    falls = λ none. (let less = subst (λ (t : Source). stutter t.items < stutter i) (sym step) (g.falls none) in omega (arith, less, no_less));
+  }
+
   -- no step of the machine
   pub goes_none_within : (s : Source) (k : List Item) (m : State) (budget c : ℕ) → LandsAt s k (running m s.world) c → c ≤ budget
       → stutter (next library (record s { items = k; phase = Going })).items < stutter k → Goes ctx s k m budget

@@ -677,7 +677,7 @@ abbrev mutual
   statement_stutter (Loop body) = 1 + body_stutter body
   statement_stutter Exit = 1
   statement_stutter Halt = 1
-  statement_stutter Return = 2
+  statement_stutter Return = 1
   statement_stutter (Call p n) = 1
   statement_stutter (For x k a b step body) = 1 + value_stutter a + value_stutter b
 

@@ -5,7 +5,7 @@ use Rattle.lil_base.specs.{Words.{Cardinal, Integer, between}, declared.{operato
 use Rattle.lil_base.specs.declared.fault.TrapKind.TheVariants as trap
 use Rattle.lil_resolved.specs.Kinds.{Workspaces, Kind, OfWhole, OfTruth, OfCharacter, OfPointer, OfRange, Scalar, Number, Truth, Character, SetOf, ToObject, Nil, Nothing, within, value_with, Shape, Word, Row, fields_of}
 use Rattle.lil_resolved.specs.Resolved.{Designator, Variable, Field, Element, Chr, Val, Expression, Constant, Taken, ByValue, Statement, Assign, Change, Request, Loop, Halt, Return, For, Statements, Empty, Then, Arms, NoElse, Else, Arm, Resolved, in_order}
-use Rattle.lil_meaning.specs.{Items.{Global, got, Looping, Turns, Item, Perform, Ended, Trapped}, World.{World, Single, piece_of, Stream, Channel, OpenBy, Closed, all_closed}, Steps.{applied, function_value, chosen, turns, exited}, Runs.state_of}
+use Rattle.lil_meaning.specs.{Items.{Global, got, Do, Looping, Turns, End, Item, Perform, Ended, Trapped}, World.{World, Single, piece_of, Stream, Channel, OpenBy, Closed, all_closed}, Steps.{applied, function_value, chosen, turns, exited}, Runs.{src, state_of}}
 
 -- ---- the turns of FOR: up to the greatest number, none downward, down by two, and past the limit
 turn_counts : turns (pos 65534) (pos 65535) (pos 1) ∷ turns (pos 3) (pos 1) (pos 1) ∷ turns (pos 5) (pos 1) (negsuc 1) ∷ turns (pos 1) (pos 6) (pos 2) ∷ [] ≡ 2 ∷ 0 ∷ 3 ∷ 3 ∷ []
@@ -115,8 +115,18 @@ below_zero w = refl
 a_halt : (w : World) → (state_of (program (Halt ∷ writes_x ∷ [])) (idle w) 20).phase ≡ Trapped (record { kind = trap.Halted; «module» = []; procedure = None })
 a_halt w = refl
 
-a_return : (w : World) → (state_of (program (Loop (Then Return Empty) ∷ writes_x ∷ [])) (idle w) 20).phase ≡ Ended
+abbrev returning : Resolved
+returning = program (Loop (Then Return Empty) ∷ writes_x ∷ [])
+
+a_return : (w : World) → (state_of returning (idle w) 20).phase ≡ Ended
 a_return w = refl
+
+-- RETURN is the end of its body, out of a LOOP too: after its one step nothing is left, or the next body is at hand
+a_return_at_once : (w : World) → ((state_of returning (idle w) 2).items ≡ []) × ((state_of returning (idle w) 3).phase ≡ Ended)
+a_return_at_once w = (refl, refl)
+
+a_next_body : (w : World) → (src (returning ∷ program (writes_x ∷ []) ∷ []) (0 ∷ 1 ∷ []) (1 ∷ 2 ∷ []) w 2).items ≡ Perform (Do writes_x) ∷ Perform (End 1) ∷ []
+a_next_body w = refl
 
 -- ---- elements and fields: a place is fixed before the value, an index outside its kind traps, and other parts stay
 abbrev digit : Kind

@@ -220,10 +220,10 @@ exited [] = []
 exited (Perform (Looping body) ∷ k) = k
 exited (i ∷ k) = exited k
 
--- RETURN: all items up to the first end go, which then is the next
+-- RETURN: all items up to and with the first end go
 abbrev pub returned : List Item → List Item
 returned [] = []
-returned (Perform (End a) ∷ k) = Perform (End a) ∷ k
+returned (Perform (End a) ∷ k) = k
 returned (i ∷ k) = returned k
 
 abbrev pub answered : List Resolved → Result Scalar TrapKind → List Item → Source → Source
@@ -408,6 +408,10 @@ called library p n k s =
     entered (procedure_by (procedures_of (loaded_at library s.loaded (owner_of (slice_get s.activations (current k))))) p)
     (called_by s.activations (owner_of (slice_get s.activations (current k))) (current k) p n) k s
 
+-- a procedure or a body ends, by its end or by RETURN: what stands behind its end is next
+abbrev pub activation_ended : List Item → Source → Source
+activation_ended k s = with_items s k
+
 abbrev pub did : List Resolved → Statement → List Item → Source → Source
 did library (Assign d kind e) k s = with_items s (PlaceOf d ∷ Fill (SetTo kind e) ∷ k)
 did library (Copy d from) k s = with_items s (PlaceOf d ∷ Fill (CopyTo from) ∷ k)
@@ -424,7 +428,7 @@ did library (Loop body) k s = with_items s (doing body (Perform (Looping body) �
 did library (Change down d kind e) k s = with_items s (PlaceOf d ∷ Fill (ChangeBy down kind e) ∷ k)
 did library (Member out d kind e) k s = with_items s (PlaceOf d ∷ Fill (MemberBy out kind e) ∷ k)
 did library Halt k s = trapped library s trap.Halted
-did library Return k s = with_items s (returned k)
+did library Return k s = activation_ended (returned k) s
 did library (Call p n) k s = called library p n k s
 did library Exit k s = with_items s (exited k)
 did library (For x kind a b step body) k s = with_items s (Evaluate a ∷ Fill (StartOf x kind b step body) ∷ k)
@@ -469,7 +473,7 @@ performed library (Until body c) k s = with_items s (Evaluate c ∷ Fill (Again 
 performed library (Looping body) k s = with_items s (doing body (Perform (Looping body) ∷ k))
 performed library (Turns x kind z step left body) k s = turned_on library x kind z step left body k s
 performed library (Holding p) k s = with_items s k
-performed library (End a) k s = with_items s k
+performed library (End a) k s = activation_ended k s
 
 -- a value goes into the next item
 abbrev pub given : List Resolved → Datum → Item → List Item → Source → Source
