@@ -158,8 +158,8 @@ module _ (ctx : Setting) where
     calls = advances marked s.world _ (
         at_step ctx marked shared.program (Cll proc 0) row.part.end row.part.here.call
         ∙ yes _ _ _ (and_from _ _ (le-leb (m.frame + 8 + 0) (m.top + 4) (omega (arith, shared.standing.frame_is, words.mark, words.below))) (eq-eqb (length m.stack) 0 (ap length row.part.empty)))
-        ∙ ap (called_row (m.top + 4 - 0 - 4) row.part.end marked) entry_is
-        ∙ ap (λ (at : ℕ). called_row at row.part.end marked (Some code.entry)) (let e : m.top + 4 - 0 - 4 ≡ m.top = omega arith in e)
+        ∙ ap (called_row m.running (m.top + 4 - 0 - 4) row.part.end marked) entry_is
+        ∙ ap (λ (at : ℕ). called_row m.running at row.part.end marked (Some code.entry)) (let e : m.top + 4 - 0 - 4 ≡ m.top = omega arith in e)
         )
 
     enters : mstep called ≡ enter_row (frame_words row.part.here.its.body) code.code.start called

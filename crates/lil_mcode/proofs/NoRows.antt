@@ -7,15 +7,9 @@ use Rattle.lil_mcode.specs.Table.{Module, State, bad, act, performed}
 -- no row that is built begins with this byte
 pub record Unbuilt (b : ℕ) : Type 0 where
   pub words : 1 ≤ b → 6 ≤ b
-  pub places : 16 ≤ b → 40 ≤ b
-  pub addresses : 44 ≤ b → 46 ≤ b
-  pub tests : 48 ≤ b → 60 ≤ b
+  pub places : 16 ≤ b → 60 ≤ b
   pub operators : 64 ≤ b → 76 ≤ b
-  pub comparisons : 80 ≤ b → 96 ≤ b
-  pub mark : b ≢ 97
-  pub call : b ≢ 101
-  pub enter : b ≢ 104
-  pub leave : b ≢ 106
+  pub comparisons : 80 ≤ b → 108 ≤ b
   pub jumps : 112 ≤ b → 123 ≤ b
   pub request : b ≢ 125
 

@@ -1,5 +1,5 @@
 -- What holds of all outcomes that a row can have holds of each step.
-use Rattle.std.proofs.Common.{◌≡◌, ℕ, ◌≤◌, Bool, true, false, cond, if◌then◌else◌, Option, Some, None, Result, Ok, Err, List, [], ◌∷◌, refl}
+use Rattle.std.proofs.Common.{◌≡◌, ℕ, ◌+◌, ◌≤◌, Bool, true, false, cond, if◌then◌else◌, Option, Some, None, Result, Ok, Err, List, [], ◌∷◌, refl}
 use Rattle.std.proofs.lemmas.Bool.{leb-true}
 use Rattle.std.specs.Prelude.{ℤ, ◌&&◌, nat_le, length}
 use Rattle.lil_base.specs.{declared.fault.{ArithFault.ArithFault, TrapKind.TrapKind, LimitKind.LimitKind}}
@@ -8,7 +8,7 @@ use Rattle.lil_asm.specs.declared.instr.Instr.TheVariants.{Liw}
 use Rattle.lil_asm.specs.{Bytes.decoded, Requests.request_words}
 use Rattle.lil_base.specs.declared.request.Request as request
 use Rattle.lil_mcode.specs.{declared.machine.Event.{Event, TheVariants.{Went, Request, LevelEnded, Trap, Limit, BadCode}}}
-use Rattle.lil_mcode.specs.Table.{Module, State, module_at, going, bad, mstep, act, fetched, performed, result_row, on_one, on_two, on_three, chosen_row, begun_row, trap_row, array_lies, request_row, end_row, body_row, called_row}
+use Rattle.lil_mcode.specs.Table.{Module, State, module_at, going, bad, mstep, act, fetched, performed, result_row, on_one, on_two, on_three, chosen_row, begun_row, trap_row, array_lies, request_row, end_row, body_row, called_row, based_row}
 
 -- a property that each outcome of a row at s has: it goes on, asks with its words on the stack and its array in the store, or changes
 -- nothing
@@ -74,13 +74,17 @@ module _ (s : State) (P : Event × State → Type 0) (p : Holds s P) where
   end_has [] = p.ended
   end_has (b ∷ bodies) = body_has b bodies (module_at s.modules b)
 
-  called_has : (at q : ℕ) (e : Option ℕ) → P (called_row at q s e)
-  called_has at q None = p.bad
-  called_has at q (Some e) = p.on _
+  called_has : (n at q : ℕ) (e : Option ℕ) → P (called_row n at q s e)
+  called_has n at q None = p.bad
+  called_has n at q (Some e) = p.on _
+
+  based_has : (base : Option ℕ) (w : ℕ) (f : ℕ → Event × State) → ((a : ℕ) → P (f a)) → P (based_row base w s f)
+  based_has None w f m = p.bad
+  based_has (Some base) w f m = m (base + w)
 
   act_has : (i : Instr) (q : ℕ) (m : Module) → P (act i q m s)
   act_has (Liw w) q m = search (either, p.on, p.bad)
-  act_has _ q m = search (either, one_has, two_has, three_has, result_has, chosen_has, begun_has, trap_has, request_has, end_has, called_has, p.on, p.trap, p.limit, p.bad) depth 9
+  act_has _ q m = search (either, one_has, two_has, three_has, result_has, chosen_has, begun_has, trap_has, request_has, end_has, called_has, based_has, p.on, p.trap, p.limit, p.bad) depth 9
 
   performed_has : (m : Module) (o : Option (Instr × ℕ)) → P (performed s m o)
   performed_has m None = p.bad

@@ -1,10 +1,10 @@
 -- The machine: its state, and what each instruction does to it.
-use Rattle.std.specs.Prelude.{ℕ, zero, suc, List, [], ◌∷◌, Bool, Option, None, slice_get, ◌+◌, ◌-◌, ◌*◌, ◌%◌, ℤ, true, not, length, Some, Result, Ok, Err, ◌&&◌, nat_lt, nat_le, ◌==◌, if◌then◌else◌, slice_index, slice_set, is_some, option_map, int_lt}
+use Rattle.std.specs.Prelude.{ℕ, zero, suc, List, [], ◌∷◌, Bool, Option, None, slice_get, ◌+◌, ◌-◌, ◌*◌, ◌/◌, ◌%◌, ℤ, true, not, length, ◌++◌, reverse, take, drop, Some, Result, Ok, Err, ◌&&◌, nat_lt, nat_le, ◌==◌, if◌then◌else◌, slice_index, slice_set, is_some, option_map, int_lt}
 use Rattle.lil_base.specs.{Words.{Whole, Cardinal, Integer, sum, difference, product, quotient, remainder, negation, absolute, between, number_of, word_of}, declared.fault.{ArithFault.ArithFault, TrapKind.TrapKind}, Sets.{has, union, minus, meet, apart, span, is_within}, Traps.arith_trap, Requests.{request_with, takes_array}}
 use Rattle.lil_base.specs.declared.fault.TrapKind.TheVariants as trap
 use Rattle.lil_base.specs.declared.fault.LimitKind.TheVariants as limit
 use Rattle.lil_asm.specs.declared.instr.Instr.{Instr}
-use Rattle.lil_asm.specs.declared.instr.Instr.TheVariants.{Liw, Lib, Dup, Drp, Swp, Lis, Llw, Llb, Slw, Slb, Lgw, Lgb, Sgw, Sgb, Lal, Lag, Ldi, Sti, Ldf, Adf, Mov, Mvz, Nlt, Ixc, Ixo, Rgc, Rgi, Cap, Adc, Sbc, Mlc, Dvc, Mdc, Adi, Sbi, Mli, Dvi, Mdi, Ngi, Abi, Uni, Dif, Its, Sym, Sin, Spn, Icl, Ecl, Sle, Not, Equ, Neq, Lsc, Lec, Lsi, Lei, Mrk, Cll, Ent, Rtn, Jmp, Jpf, Jan, Jor, Jms, Jfs, Cas, Fri, Frn, Trp, Alc, Svc}
+use Rattle.lil_asm.specs.declared.instr.Instr.TheVariants.{Liw, Lib, Dup, Drp, Swp, Lis, Llw, Llb, Slw, Slb, Lgw, Lgb, Sgw, Sgb, Lew, Sew, Lnw, Snw, Lal, Lag, Lae, Lan, Ldi, Sti, Ldf, Adf, Mov, Mvz, Nlt, Ixc, Ixo, Rgc, Rgi, Cap, Adc, Sbc, Mlc, Dvc, Mdc, Adi, Sbi, Mli, Dvi, Mdi, Ngi, Abi, Uni, Dif, Its, Sym, Sin, Spn, Icl, Ecl, Sle, Not, Equ, Neq, Lsc, Lec, Lsi, Lei, Sav, Mrk, Mrf, Psh, Psm, Cll, Clx, Clf, Ent, Cpy, Rtn, Rst, Jmp, Jpf, Jan, Jor, Jms, Jfs, Cas, Fri, Frn, Trp, Alc, Svc}
 use Rattle.lil_asm.specs.{Requests.request_words, Bytes.decoded}
 use Rattle.lil_mcode.specs.{declared.machine.Event.{Event, TheVariants.{Went, Request, LevelEnded, Trap, Limit, BadCode}}, Control.{above, chosen, loop_type, loop_words, turns, after_first}}
 use Rattle.lil_base.specs.declared.request.Request as request
@@ -176,6 +176,18 @@ store_row a q s x rest = if nat_lt a 65536 then (Went, record s { place = q; sta
 abbrev pub address_row : ℕ → ℕ → State → Event × State
 address_row a q s = if nat_lt a 65536 then push_row a q s else bad s
 
+-- where the data of a module begin, if it is loaded
+abbrev pub its_base : Module → ℕ
+its_base m = m.base
+
+abbrev pub base_at : List Module → ℕ → Option ℕ
+base_at modules n = option_map its_base (module_at modules n)
+
+-- a row at the word so many words behind a base
+abbrev pub based_row : Option ℕ → ℕ → State → (ℕ → Event × State) → Event × State
+based_row None w s f = bad s
+based_row (Some base) w s f = f (base + w)
+
 -- an address in place of so many words with these below
 abbrev pub place_row : ℕ → ℕ → State → List ℕ → Event × State
 place_row a q s rest = if nat_lt a 65536 then (Went, going s q (a ∷ rest)) else bad s
@@ -302,11 +314,15 @@ abbrev pub link_word : ℕ → State → ℕ
 link_word zero s = 0
 link_word (suc n) s = frame_out s.store s.frame n
 
+-- the stack of frames has n words more, in a store to which they have come
+abbrev pub longer_row : ℕ → List ℕ → ℕ → List ℕ → State → Event × State
+longer_row n store q rest s =
+    if nat_lt s.limit (s.top + n) then (Limit limit.Stack, s)
+    else (Went, record s { place = q; stack = rest; top = s.top + n; store = store })
+
 -- words go to the stack of frames
 abbrev pub stacked_row : List ℕ → ℕ → List ℕ → State → Event × State
-stacked_row ws q rest s =
-    if nat_lt s.limit (s.top + length ws) then (Limit limit.Stack, s)
-    else (Went, record s { place = q; stack = rest; top = s.top + length ws; store = spliced s.store s.top ws })
+stacked_row ws q rest s = longer_row (length ws) (spliced s.store s.top ws) q rest s
 
 abbrev pub mark_row : ℕ → ℕ → State → Event × State
 mark_row n q s = stacked_row (link_word n s ∷ 0 ∷ 0 ∷ 0 ∷ []) q s.stack s
@@ -319,16 +335,65 @@ abbrev pub entry_in : Option Module → ℕ → Option ℕ
 entry_in None p = None
 entry_in (Some m) p = option_map its_entry (slice_get m.procedures p)
 
--- a frame begins at a word; its mark says where the return goes on
-abbrev pub called_row : ℕ → ℕ → State → Option ℕ → Event × State
-called_row at q s None = bad s
-called_row at q s (Some e) = (Went, record s { place = e; frame = at; store = spliced s.store (at + 1) (s.frame ∷ q ∷ s.running ∷ []) })
+-- a procedure value has the number of a module, and below it that of a procedure
+abbrev pub entry_of_value : List Module → ℕ → Option ℕ
+entry_of_value modules v = entry_in (module_at modules (v / 256)) (v % 256)
 
-abbrev pub call_row : ℕ → ℕ → ℕ → State → Event × State
-call_row p a q s =
+-- a mark for the call of a procedure value
+abbrev pub value_mark_row : ℕ → State → ℕ → List ℕ → Event × State
+value_mark_row q s v rest =
+    if v == 0 then (Trap trap.NoProcedure, s)
+    else (if is_some (entry_of_value s.modules v) then stacked_row (0 ∷ 0 ∷ 0 ∷ v ∷ []) q rest s else bad s)
+
+-- a frame of a module's procedure begins at a word; its mark says where the return goes on
+abbrev pub called_row : ℕ → ℕ → ℕ → State → Option ℕ → Event × State
+called_row n at q s None = bad s
+called_row n at q s (Some e) = (Went, record s { running = n; place = e; frame = at; store = spliced s.store (at + 1) (s.frame ∷ q ∷ s.running ∷ []) })
+
+abbrev pub call_row : ℕ → ℕ → ℕ → ℕ → State → Event × State
+call_row n p a q s =
     if nat_le (s.frame + 8 + a) s.top && (length s.stack == 0)
-    then called_row (s.top - a - 4) q s (entry_in (module_at s.modules s.running) p)
+    then called_row n (s.top - a - 4) q s (entry_in (module_at s.modules n) p)
     else bad s
+
+-- a call of the procedure whose value stands in the mark
+abbrev pub value_call_row : ℕ → ℕ → State → ℕ → Event × State
+value_call_row a q s v = call_row (v / 256) (v % 256) a q s
+
+-- a word goes to the stack of frames
+abbrev pub word_row : ℕ → State → ℕ → List ℕ → Event × State
+word_row q s x rest = stacked_row (x ∷ []) q rest s
+
+-- so many words from an address go to the stack of frames
+abbrev pub words_row : ℕ → ℕ → State → ℕ → List ℕ → Event × State
+words_row w q s from rest =
+    if nat_le (from + w) 65536 then longer_row w (spliced s.store s.top (moved s.store from w 0)) q rest s else bad s
+
+-- the same, and where they now stand comes to a place
+abbrev pub copied_row : ℕ → ℕ → ℕ → State → ℕ → Event × State
+copied_row at n q s from =
+    if nat_le (from + n) 65536 then longer_row n (slice_set (spliced s.store s.top (moved s.store from n 0)) at s.top) q s.stack s else bad s
+
+-- an array whose address stands at a place, and behind it the number of its last element, with elements of so many words
+abbrev pub array_row : ℕ → ℕ → ℕ → State → Event × State
+array_row at w q s =
+    if nat_lt (at + 1) 65536
+    then copied_row at ((slice_index s.store (at + 1) + 1) * w) q s (slice_index s.store at)
+    else bad s
+
+-- the words of the expression stack, the lowest first, and their number go to the stack of frames
+abbrev pub save_row : ℕ → State → Event × State
+save_row q s = stacked_row (reverse s.stack ++ length s.stack ∷ []) q [] s
+
+-- k words that were saved come back below r others
+abbrev pub restored_row : ℕ → ℕ → State → ℕ → Event × State
+restored_row r q s k =
+    if length s.stack == r && (nat_le (k + r) 16 && nat_le (s.frame + 5 + k) s.top)
+    then (Went, record s { place = q; stack = s.stack ++ reverse (take k (drop (s.top - 1 - k) s.store)); top = s.top - 1 - k })
+    else bad s
+
+abbrev pub restore_row : ℕ → ℕ → State → Event × State
+restore_row r q s = restored_row r q s (slice_index s.store (s.top - 1))
 
 abbrev pub enter_row : ℕ → ℕ → State → Event × State
 enter_row w q s =
@@ -403,8 +468,14 @@ act (Lgw w) q m s = load_row (m.base + w) q s
 act (Lgb b) q m s = load_row (m.base + b) q s
 act (Sgw w) q m s = on_one s s.stack (store_row (m.base + w) q s)
 act (Sgb b) q m s = on_one s s.stack (store_row (m.base + b) q s)
+act (Lew n w) q m s = based_row (base_at s.modules n) w s (λ a. load_row a q s)
+act (Sew n w) q m s = based_row (base_at s.modules n) w s (λ a. on_one s s.stack (store_row a q s))
+act (Lnw n w) q m s = load_row (frame_out s.store s.frame n + w) q s
+act (Snw n w) q m s = on_one s s.stack (store_row (frame_out s.store s.frame n + w) q s)
 act (Lal w) q m s = address_row (s.frame + w) q s
 act (Lag w) q m s = address_row (m.base + w) q s
+act (Lae n w) q m s = based_row (base_at s.modules n) w s (λ a. address_row a q s)
+act (Lan n w) q m s = address_row (frame_out s.store s.frame n + w) q s
 act Ldi q m s = on_one s s.stack (fetch_row 0 q s)
 act Sti q m s = on_two s s.stack (put_row q s)
 act (Ldf w) q m s = on_one s s.stack (fetch_row w q s)
@@ -445,10 +516,18 @@ act Lsc q m s = compare_row (less Cardinal) q s s.stack
 act Lec q m s = compare_row (at_most Cardinal) q s s.stack
 act Lsi q m s = compare_row (less Integer) q s s.stack
 act Lei q m s = compare_row (at_most Integer) q s s.stack
+act Sav q m s = save_row q s
 act (Mrk n) q m s = mark_row n q s
-act (Cll p a) q m s = call_row p a q s
+act Mrf q m s = on_one s s.stack (value_mark_row q s)
+act Psh q m s = on_one s s.stack (word_row q s)
+act (Psm w) q m s = on_one s s.stack (words_row w q s)
+act (Cll p a) q m s = call_row s.running p a q s
+act (Clx n p a) q m s = call_row n p a q s
+act (Clf a) q m s = value_call_row a q s (slice_index s.store (s.top - a - 1))
 act (Ent w) q m s = enter_row w q s
+act (Cpy o w) q m s = array_row (s.frame + o) w q s
 act Rtn q m s = leave_row s
+act (Rst r) q m s = restore_row r q s
 act (Jmp t) q m s = jump m t s s
 act (Jpf t) q m s = on_one s s.stack (false_row m t q s)
 act (Jan t) q m s = on_one s s.stack (and_row m t q s)
@@ -461,7 +540,7 @@ act (Frn o t) q m s = again_row m (s.frame + o) t q s
 act (Trp k) q m s = trap_row s (called_trap k)
 act Alc q m s = on_two s s.stack (take_row q s)
 act (Svc r) q m s = request_row q s (request_with r)
--- the other rows of calls, and those of other frames and modules and of coroutines aren't built yet
+-- those of coroutines, NPR and TRF, aren't built yet
 act _ q m s = bad s
 
 abbrev pub performed : State → Module → Option (Instr × ℕ) → Event × State

@@ -18,6 +18,8 @@ mod fetching;
 mod frames;
 mod loading;
 mod operators;
+mod pushing;
+mod rare;
 mod sets;
 mod stack;
 

@@ -1,7 +1,7 @@
 //! The rows of addresses, and of words and blocks of words at addresses.
 
 ghost use Rattle.std.specs.Prelude.{◌≡◌, ◌+◌, ◌*◌, ◌<◌, ◌≤◌, ◌∷◌, length, drop};
-ghost use Rattle.lil_mcode.specs.Table.{address_row, place_row, further_row, fetch_row, put_row, move_row, nil_row, element_row, open_row, take_row, on_one, on_two, on_three};
+ghost use Rattle.lil_mcode.specs.Table.{address_row, base_at, based_row, place_row, further_row, fetch_row, put_row, move_row, nil_row, element_row, open_row, take_row, on_one, on_two, on_three};
 
 use super::Processor;
 use super::control::distance;
@@ -18,6 +18,15 @@ impl Processor {
             return Event::BadCode;
         }
         self.push(at as u16, next)
+    }
+
+    pub(super) fn push_address_in(&mut self, number: u8, offset: u16, next: u16) -> Event
+        ensures { based_row (base_at self.old.modules number) offset self.old (λ a. address_row a next self.old) ≡ (result, self.new) }
+    {
+        let Some(base) = self.base_of(number) else {
+            return Event::BadCode;
+        };
+        self.push_address(base, offset, next)
     }
 
     /// An address in place of so many words at the top.

@@ -2,7 +2,7 @@
 
 ghost use Rattle.std.specs.Prelude.{◌≡◌, ◌+◌, ◌*◌, ◌<◌, ◌≤◌, ◌^◌, length, drop, take, slice_get, OnSome, IfSome, IfNone, None, Some};
 ghost use Rattle.std.specs.Option.{option_copied};
-ghost use Rattle.lil_asm.specs.{Bytes.{word_at, two_words_at, with_entries, with_loop, with_byte_word, row, row_0, row_2, row_3, row_4, row_5, row_6, row_7}, declared.instr.Instr.TheVariants.{Cas, Cll, Fri}};
+ghost use Rattle.lil_asm.specs.{Bytes.{word_at, two_words_at, byte_word_at, with_entries, with_loop, row, row_0, row_2, row_3, row_4, row_5, row_6, row_7}, declared.instr.Instr.TheVariants.{Cas, Fri}};
 ghost use Rattle.lil_mcode.specs.{Fetch.{running_code, running_base, current}, Loaded.{loaded_at, IsPartOf}, Table.{mstep, performed}};
 
 use super::{LoadedModule, Processor};
@@ -119,8 +119,7 @@ impl Processor {
     #[inline(always)]
     pub(super) fn byte_and_word(&self, place: usize) -> Option<(u8, u16)>
         requires { place < 65535 }
-        ensures some { IfSome result (λ o. with_byte_word Cll (running_code self.now) place ≡ Some (Cll o.0 o.1, place + 4)) }
-        ensures none { IfNone result (with_byte_word Cll (running_code self.now) place ≡ None) }
+        ensures value { result ≡ byte_word_at (running_code self.now) (place + 1) }
         ensures within { OnSome result (place + 3 < 65535) }
     {
         let first = self.byte(place + 1)?;
@@ -214,6 +213,7 @@ impl Processor {
                 };
                 self.store(self.data_base(), b, (place + 2) as u16)
             }
+            0x28..=0x2b => self.go_elsewhere(first, place),
             0x2c => {
                 let Some(w) = self.word(place + 1) else {
                     return Event::BadCode;
@@ -226,6 +226,7 @@ impl Processor {
                 };
                 self.push_address(self.data_base(), w, (place + 3) as u16)
             }
+            0x2e..=0x2f => self.go_elsewhere(first, place),
             0x30 => self.fetch(0, (place + 1) as u16),
             0x31 => self.put_word((place + 1) as u16),
             0x32 => {
@@ -306,25 +307,30 @@ impl Processor {
             0x5d => self.compare(Comparison::AtMostCardinal, (place + 1) as u16),
             0x5e => self.compare(Comparison::LessInteger, (place + 1) as u16),
             0x5f => self.compare(Comparison::AtMostInteger, (place + 1) as u16),
+            0x60 => self.go_to_frames(first, place),
             0x61 => {
                 let Some(b) = self.byte(place + 1) else {
                     return Event::BadCode;
                 };
                 self.mark(b, (place + 2) as u16)
             }
+            0x62..=0x64 => self.go_to_frames(first, place),
             0x65 => {
                 let Some((b, w)) = self.byte_and_word(place) else {
                     return Event::BadCode;
                 };
-                self.call(b, w, (place + 4) as u16)
+                self.call(self.running, b, w, (place + 4) as u16)
             }
+            0x66..=0x67 => self.call_elsewhere(first, place),
             0x68 => {
                 let Some(w) = self.word(place + 1) else {
                     return Event::BadCode;
                 };
                 self.enter(w, (place + 3) as u16)
             }
+            0x69 => self.go_to_frames(first, place),
             0x6a => self.leave(),
+            0x6b => self.go_to_frames(first, place),
             0x70 => {
                 let Some(w) = self.word(place + 1) else {
                     return Event::BadCode;
@@ -394,15 +400,9 @@ impl Processor {
             }
             0x00
             | 0x06..=0x0f
-            | 0x28..=0x2b
-            | 0x2e..=0x2f
             | 0x3c..=0x3f
             | 0x4c..=0x4f
-            | 0x60
-            | 0x62..=0x64
-            | 0x66..=0x67
-            | 0x69
-            | 0x6b..=0x6f
+            | 0x6c..=0x6f
             | 0x7b..=0x7c
             | 0x7e..=0xff => Event::BadCode,
         }

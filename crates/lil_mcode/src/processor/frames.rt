@@ -1,7 +1,7 @@
 //! The rows of frames: the mark and the words of a body, marks and calls of procedures, and returns.
 
-ghost use Rattle.std.specs.Prelude.{◌≡◌, ◌+◌, ◌*◌, ◌<◌, ◌≤◌, ◌∷◌, length, false, option_map, OnSome, Some, []};
-ghost use Rattle.lil_mcode.specs.Table.{module_at, body_entry, enter_row, leave_row, end_row, return_row, frame_out, link_word, mark_row, entry_in, call_row};
+ghost use Rattle.std.specs.Prelude.{◌≡◌, ◌+◌, ◌-◌, ◌*◌, ◌<◌, ◌≤◌, ◌∷◌, length, slice_index, false, option_map, OnSome, Some, []};
+ghost use Rattle.lil_mcode.specs.Table.{module_at, body_entry, enter_row, leave_row, end_row, return_row, frame_out, link_word, mark_row, entry_in, call_row, value_call_row};
 ghost use Rattle.lil_frames.specs.Words.{spliced};
 
 use super::Processor;
@@ -41,7 +41,7 @@ impl Processor {
     }
 
     /// The frame so many links out from the running one.
-    fn outer_frame(&self, links: u8) -> u16
+    pub(super) fn outer_frame(&self, links: u8) -> u16
         ensures { result ≡ frame_out self.now.store self.now.frame links }
     {
         let mut frame = self.frame;
@@ -66,29 +66,23 @@ impl Processor {
     pub(super) fn mark(&mut self, levels: u8, next: u16) -> Event
         ensures { mark_row levels next self.old ≡ (result, self.new) }
     {
-        let end = u32::from(self.top) + 4;
-        if u32::from(self.memory.lowest()) < end {
-            return Event::Limit(LimitKind::Stack);
-        }
         let link = self.link(levels);
-        self.memory.set_words(self.top, &[link, 0, 0, 0]);
-        self.top = end as u16;
-        self.place = next;
-        Event::Went
+        self.stack_words(&[link, 0, 0, 0], 0, next)
     }
 
-    /// Where a procedure of the running module begins.
-    fn entry_of(&self, procedure: u8) -> Option<u16>
-        ensures { result ≡ entry_in (module_at self.now.modules self.now.running) procedure }
+    /// Where a procedure of a module begins.
+    pub(super) fn entry_of(&self, number: u8, procedure: u8) -> Option<u16>
+        ensures known { OnSome result (number ≤ length self.now.modules) }
+        ensures value { result ≡ entry_in (module_at self.now.modules number) procedure }
     {
-        let module = loaded(self.modules.as_slice(), self.running)?;
+        let module = loaded(self.modules.as_slice(), number)?;
         let found = module.procedures.as_slice().get(usize::from(procedure))?;
         Some(found.0)
     }
 
-    /// A procedure is called, with a mark and so many words of arguments above it.
-    pub(super) fn call(&mut self, procedure: u8, words: u16, next: u16) -> Event
-        ensures { call_row procedure words next self.old ≡ (result, self.new) }
+    /// A module's procedure is called, with a mark and so many words of arguments above it.
+    pub(super) fn call(&mut self, number: u8, procedure: u8, words: u16, next: u16) -> Event
+        ensures { call_row number procedure words next self.old ≡ (result, self.new) }
     {
         if u32::from(self.top) < u32::from(self.frame) + 8 + u32::from(words) {
             return Event::BadCode;
@@ -96,7 +90,7 @@ impl Processor {
         if self.stack.len() != 0 {
             return Event::BadCode;
         }
-        let Some(entry) = self.entry_of(procedure) else {
+        let Some(entry) = self.entry_of(number, procedure) else {
             return Event::BadCode;
         };
         let at = self.top - words - 4;
@@ -104,7 +98,20 @@ impl Processor {
             .set_words(at + 1, &[self.frame, next, u16::from(self.running)]);
         self.frame = at;
         self.place = entry;
+        if number == self.running {
+            return Event::Went;
+        }
+        self.run_in(number);
         Event::Went
+    }
+
+    /// The procedure is called whose value stands in the mark.
+    pub(super) fn call_value(&mut self, words: u16, next: u16) -> Event
+        ensures { value_call_row words next self.old (slice_index self.old.store (self.old.top - words - 1)) ≡ (result, self.new) }
+    {
+        let at = self.top.saturating_sub(words).saturating_sub(1);
+        let value = self.memory.word(at);
+        self.call((value / 256) as u8, (value % 256) as u8, words, next)
     }
 
     pub(super) fn entry(&self, number: u8) -> Option<u16>

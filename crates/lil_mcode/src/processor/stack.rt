@@ -2,9 +2,10 @@
 
 ghost use Rattle.std.specs.Prelude.{◌≡◌, ◌+◌, ◌<◌, ◌≤◌, ◌∷◌, length, drop, slice_get, None, Some, MatchOption};
 ghost use Rattle.lil_base.specs.Words.{Cardinal, Integer};
-ghost use Rattle.lil_mcode.specs.Table.{going, push_row, load_row, store_row, range_row, double_row, drop_row, swap_row, on_one, on_two};
+ghost use Rattle.lil_mcode.specs.Table.{going, push_row, load_row, store_row, range_row, base_at, based_row, double_row, drop_row, swap_row, on_one, on_two};
 
 use super::Processor;
+use super::fetching::loaded;
 use crate::arithmetic::{integer, trap_of, truth_word};
 use crate::machine::Event;
 use lil_base::TrapKind;
@@ -45,6 +46,32 @@ impl Processor {
         self.memory.set_word(at as u16, word);
         self.place = next;
         Event::Went
+    }
+
+    /// Where the data of a module begins, if it is loaded.
+    pub(super) fn base_of(&self, number: u8) -> Option<u16>
+        ensures { result ≡ base_at self.now.modules number }
+    {
+        let module = loaded(self.modules.as_slice(), number)?;
+        Some(module.base)
+    }
+
+    pub(super) fn load_in(&mut self, number: u8, offset: u16, next: u16) -> Event
+        ensures { based_row (base_at self.old.modules number) offset self.old (λ a. load_row a next self.old) ≡ (result, self.new) }
+    {
+        let Some(base) = self.base_of(number) else {
+            return Event::BadCode;
+        };
+        self.load(base, offset, next)
+    }
+
+    pub(super) fn store_in(&mut self, number: u8, offset: u16, next: u16) -> Event
+        ensures { based_row (base_at self.old.modules number) offset self.old (λ a. on_one self.old self.old.stack (store_row a next self.old)) ≡ (result, self.new) }
+    {
+        let Some(base) = self.base_of(number) else {
+            return Event::BadCode;
+        };
+        self.store(base, offset, next)
     }
 
     pub(super) fn topmost(&self) -> Option<u16>

@@ -7,3 +7,8 @@ pub returns-in-0-3 : goal.returns-in-0-3
 returns-in-0-3 c =
     let s = c.args.self.now in
     (row_bad s (current s) c.args.first (running_code s) c.args.place (omega arith)).is
+
+pub returns-in-0-4 : goal.returns-in-0-4
+returns-in-0-4 c =
+    let s = c.args.self.now in
+    (row_bad s (current s) c.args.first (running_code s) c.args.place (omega arith)).is
