@@ -1,21 +1,22 @@
 -- What each form of expression, selector, designator, operation and element means, from what its parts mean.
 use Rattle.std.proofs.Common.{◌≡◌, ◌∷◌, ◌++◌, ℕ, Bool, false, List, [], Option, Some, None, Result, Ok, IfOk, subst, take, get_or, ◌+◌, ◌<◌, ◌≤◌, ap, ◌∙◌, ◌≢◌, length, true, map, refl, sym}
+use Rattle.std.specs.Prelude.{◌&&◌, is_none}
 use Rattle.std.proofs.lemmas.Result.{IfOk-at_ok}
 use Rattle.std.proofs.lemmas.List.{take_all}
-use Rattle.lil_base.specs.declared.{fault.Place.Place, operator.OneOp.OneOp}
+use Rattle.lil_base.specs.declared.{fault.{Place.Place, FaultKind.TheVariants.NotConst}, operator.OneOp.OneOp}
 use Rattle.lil_text.specs.declared.tree.{Ident.Ident, Qualident.Qualident}
 use Rattle.lil_language.specs.declared.tree.{Expr.{Expr, out-Expr, TheOpen.{Expr-F, Selector-F, Range-F}}, Selector.Selector, Designator.{Designator, out-Designator}, Operation.{Operation, out-Operation}, Range.{Range, out-Range, roll-Range}}
 use Rattle.lil_language.specs.declared.tree.Expr.{TheFolds.{map-Expr, map-Selector, fold-roll-Expr, fold-roll-Selector, fold_out-Designator, fold_out-Operation, map-Range, fold-roll-Range}, TheViews.{roll-Expr, roll-Selector, roll-out-Expr, roll-out-Range}}
 use Rattle.lil_language.specs.declared.tree.Expr.TheVariants as v
 use Rattle.lil_language.specs.declared.tree.Selector.TheVariants as w
 use Rattle.lil_resolved.specs.declared.resolved.RStmt.{RStmt}
-use Rattle.lil_report.specs.{declared.report.Fault.Fault, Told.{Said, walk, after}, Laws.{said_as, said_to, said_after, said_map, said_more, walk_map}}
+use Rattle.lil_report.specs.{declared.report.Fault.Fault, Least.now_of, Told.{Row, row, rows_of, has_no_fault, noted, tell, Said, walk, after}, Laws.{tell_append, said_as, said_to, said_after, said_map, said_more, walk_map}, Faults.apart_told}
 use Rattle.lil_scope.specs.declared.env.Env.{Env}
 use Rattle.lil_kinds.specs.declared.found.Found.{Found}
 use Rattle.lil_call.specs.{declared.call.{Callee.Callee, Argument.Argument}, Calls.{call_node, statement_node}}
 use Rattle.lil_call.specs.declared.call.Argument.TheVariants as argument
 use Rattle.lil_check_value.specs.{declared.{designators.Reached.Reached, asked.Asked.Asked}, Designators.{root_means, field_node, index_node, follow_node, value_node, variable_node, callee_node, typed_node}, Looks.set_sort}
-use Rattle.lil_check_value.specs.Values.{step, joins, means, typed_means, variable_means, call_means, reach_means, index_means, step_means, operation_means, joins_mean, elements_mean, argument_in, argument_means, arguments_mean, begins, whole_node, code_node, text_node, asks, asks_at, begun_at, Sense, Way, Step, Operates, Joins, expression_layer, selector_layer, designator_layer, operation_layer, range_layer, sense, way, operates, as_argument}
+use Rattle.lil_check_value.specs.Values.{step, joins, means, as_constant, typed_means, variable_means, call_means, reach_means, index_means, step_means, operation_means, joins_mean, elements_mean, argument_in, argument_means, arguments_mean, begins, whole_node, code_node, text_node, asks, asks_at, begun_at, Sense, Way, Step, Operates, Joins, expression_layer, selector_layer, designator_layer, operation_layer, range_layer, sense, way, operates, as_argument}
 use Rattle.lil_operators.specs.{declared.{operations.Chained.Chained, sets.Gathered.Gathered}, Operations.{Elements, one_node, begun, two_node, chain_found, set_node, joined_one, joined_range, no_elements, all_gathered, gathered_one, gathered_range, gathered_set}, Gathering.{Gathers, gathers, one_gathered, range_gathered, is_gathered}}
 use Rattle.lil_language.specs.declared.tree.Expr.TheOpen as o
 use Rattle.lil_check_value.specs.Values as s
@@ -47,7 +48,7 @@ module _ (e : Env) where
   unfolding means
   index_is bracket xs a = ap (λ x. step e x a) (sym (w.rolls-Index bracket xs)) ∙ (ap (λ m. m a) (step_rolled (o.Index bracket xs)) ∙ walk_map (s.index_step e bracket) (sense e) a xs)
 
-  pub follow_is : (arrow : Place) (a : Option Reached) → step e (w.Follow arrow) a ≡ follow_node e.types arrow a
+  pub follow_is : (arrow : Place) (a : Option Reached) → step e (w.Follow arrow) a ≡ follow_node e arrow a
   follow_is arrow a = ap (λ x. step e x a) (sym (w.rolls-Follow arrow)) ∙ ap (λ m. m a) (step_rolled (o.Follow arrow))
 
   -- ---- designators
@@ -167,7 +168,7 @@ module _ (e : Env) {r : Option Fault} where
     pub is_index : (xs : List Expr) {bracket : Place} → of ≡ w.Index bracket xs → Said (walk (index_means e bracket) a xs) r b s → Said (step e of a) r b s
     is_index xs {bracket = bracket} is h = said_as (ap (λ x. step e x a) is ∙ index_is e bracket xs a) h
 
-    pub is_follow : {arrow : Place} → of ≡ w.Follow arrow → Said (follow_node e.types arrow a) r b s → Said (step e of a) r b s
+    pub is_follow : {arrow : Place} → of ≡ w.Follow arrow → Said (follow_node e arrow a) r b s → Said (step e of a) r b s
     is_follow {arrow = arrow} is h = said_as (ap (λ x. step e x a) is ∙ follow_is e arrow a) h
 
   pub is_reached : (p : Place) (d : Designator) (ss : List Selector) {a b : Option Reached} {s t : Option Fault} → ss ≡ (out-Designator d).selectors → Said (root_means e p (out-Designator d).first) r a s
@@ -269,3 +270,14 @@ module _ (e : Env) {r : Option Fault} where
       said_after _ _ (said_after _ _ (subst (λ q. Said (reach_means e q d) r o s) first h) g)
       (said_after _ _ (subst (λ z. Said (arguments_mean e z xs) t given u) asked (subst (λ ys. Said (arguments_mean e k' ys) t given u) these (IfOk-at_ok (λ given. Said (arguments_mean e k' ys) t given u) held.1 g')))
       (subst (λ q. Said (statement_node e.types q c given) u a w') first (subst (λ c. Said (statement_node e.types q c given) u a w') held.0 l)))
+
+-- ---- what must be constant: its own tests are kept apart, and what they found is one test
+pub is_asked : {A : Type 0} (p : Place) (m : Option A × List Row) {a : Option A} {o r s t u : Option Fault} {none : Bool} {q : Place} → o ≡ None → Said m o a t → q ≡ p → none ≡ (is_none a && is_none (now_of t))
+    → u ≡ noted t (row none q NotConst) → s ≡ tell r (rows_of u) → Said (as_constant p m) r a s
+unfolding as_constant tell
+is_asked p m {a = a} {r = r} {t = t} {u = u} begun' before first is note all =
+    let h : Said m None a t = subst (λ o. Said m o a t) begun' before in
+    let rows : List Row = m.1 ++ row (is_none m.0 && has_no_fault m.1) p NotConst ∷ [] in
+    let last : noted t (row (is_none m.0 && has_no_fault m.1) p NotConst) ≡ tell None rows = (λ j. noted (h.told j) (row (is_none m.0 && has_no_fault m.1) p NotConst)) ∙ sym (tell_append None m.1 (row (is_none m.0 && has_no_fault m.1) p NotConst ∷ [])) in
+    let own : u ≡ tell None rows = note ∙ ((λ j. noted t (row ((is ∙ (λ i. is_none (h.value i) && is_none (now_of (h.told i)))) j) (first j) NotConst)) ∙ last) in
+    record { value = h.value; told = all ∙ (ap (λ u. tell r (rows_of u)) own ∙ apart_told r rows) }

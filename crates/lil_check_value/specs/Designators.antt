@@ -2,7 +2,7 @@
 use Rattle.std.specs.Prelude.{ℕ, nat_lt, Bool, true, false, List, [], ◌∷◌, slice_get, Option, Some, None, if◌then◌else◌, ◌==◌, is_none, not, ◌&&◌}
 use Rattle.lil_base.specs.declared.fault.{Place.Place, FaultKind.{FaultKind, TheVariants.{WrongKind, ProcValue, Unknown, NotExported, Assign, NotArray, NotRecord, NotPointer, NoField, Opaque, ConstRange, ExprDeep, NotBuilt}}}
 use Rattle.lil_report.specs.Told.{Row, row}
-use Rattle.lil_scope.specs.{declared.{thing.{Kind.Kind, Routine.Routine, Thing.Thing, Variable.Variable}, env.Env.Env}, Names.member}
+use Rattle.lil_scope.specs.{declared.{thing.{Kind.Kind, Routine.Routine, Thing.Thing, Variable.Variable}, env.Env.Env}, Names.{member, waits_for}}
 use Rattle.lil_scope.specs.declared.thing.Kind.TheVariants as k
 use Rattle.lil_scope.specs.declared.thing.Thing.TheVariants as t
 use Rattle.lil_kinds.specs.{declared.{found.{Form.Form, Found.Found, Located.Located, Standing.Standing}, forms.{ArrayParts.ArrayParts, FieldAt.FieldAt}}, Forms.{array_parts, field, is_record, target, is_opaque}, Kinds.{assignable, misses}}
@@ -219,13 +219,21 @@ part_follow types arrow a = (
       ∷ row (not (opaque_kind types a.kind) && is_none (target_of types a.kind)) arrow NotPointer ∷ [],
 )
 
+-- nothing lies behind a pointer whose target the block at hand declares later
+abbrev pub is_waiting : Env → Kind → Bool
+is_waiting e (k.Of s) = waits_for e s
+is_waiting e _ = false
+
+abbrev pub reached_follow : Env → Place → Part → Reaches
+reached_follow e arrow a = if is_waiting e a.kind then (None, []) else part_follow e.types arrow a
+
 unfoldable pub other_follow : Place → Named → Reaches
 other_follow arrow o = (None, refused_rows o arrow NotPointer)
 
-abbrev pub follow_node : Table → Place → Option Reached → Reaches
-follow_node types arrow None = (None, [])
-follow_node types arrow (Some (reached.Part a)) = part_follow types arrow a
-follow_node types arrow (Some (reached.Other o)) = other_follow arrow o
+abbrev pub follow_node : Env → Place → Option Reached → Reaches
+follow_node e arrow None = (None, [])
+follow_node e arrow (Some (reached.Part a)) = reached_follow e arrow a
+follow_node e arrow (Some (reached.Other o)) = other_follow arrow o
 
 -- ---- what a designator is where it is used: as a value, as a variable, as what is called, and as a type's name
 

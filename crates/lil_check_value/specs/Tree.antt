@@ -65,7 +65,7 @@ module _ (L : (A : Type 0) → (A → Type 0) → A × List Row → Type 0) (e :
     pub root : (p : Place) (i : Ident) → L (Option Reached) T.reached (root_means e p i)
     pub field : (dot : Place) (i : Ident) (o : Option Reached) → T.reached o → L (Option Reached) T.reached (field_node e dot i o)
     pub index : (bracket : Place) (o : Option Reached) (i : Option Found) → T.reached o → T.value i → L (Option Reached) T.reached (index_node e.types bracket o i)
-    pub follow : (arrow : Place) (o : Option Reached) → T.reached o → L (Option Reached) T.reached (follow_node e.types arrow o)
+    pub follow : (arrow : Place) (o : Option Reached) → T.reached o → L (Option Reached) T.reached (follow_node e arrow o)
     pub used : (o : Option Reached) → T.reached o → L (Option Found) T.value (value_node e.texts o)
     pub typed : (p : Place) (o : Option Reached) → T.reached o → L Argument T.argument (typed_node p o)
     pub given : (a : Option Found) → T.value a → T.argument (argument.Value a)

@@ -1,12 +1,13 @@
 -- What expressions mean: their value where they have a type, and the tests of their nodes.
-use Rattle.std.specs.Prelude.{ℕ, ◌==◌, nat_lt, pos, Bool, true, false, not, List, [], ◌∷◌, ◌++◌, length, Option, Some, None}
-use Rattle.lil_base.specs.declared.fault.{FaultKind.TheVariants.ConstRange, Place.Place}
+use Rattle.std.specs.Prelude.{ℕ, ◌==◌, nat_lt, pos, Bool, true, false, not, List, [], ◌∷◌, ◌++◌, length, Option, Some, None, is_none, ◌&&◌}
+use Rattle.lil_base.specs.declared.fault.{FaultKind.TheVariants.{ConstRange, NotConst}, Place.Place}
 use Rattle.lil_language.specs.declared.tree.{Expr.{Expr, TheOpen.{Expr-F, Selector-F, Designator-F, Operation-F, Range-F}, TheFolds.{fold-Expr, fold-Selector, fold-Designator, fold-Operation, fold-Range}}, Designator.{Designator, out-Designator}, Selector.Selector, Operation.Operation, Range.Range}
 use Rattle.lil_language.specs.declared.tree.Expr.TheOpen as x
+use Rattle.lil_language.specs.Trees.{first_place}
 use Rattle.lil_types.specs.Types.{Table, char}
 use Rattle.lil_resolved.specs.{declared.resolved.RStmt.RStmt, Sound.is_text}
 use Rattle.lil_declared.specs.declared.standard.Standard.{Standard, TheVariants.{Max, Min, Val}}
-use Rattle.lil_report.specs.Told.{Row, row, after, walk}
+use Rattle.lil_report.specs.Told.{Row, row, has_no_fault, after, walk}
 use Rattle.lil_scope.specs.declared.{thing.Chars.Chars, env.Env.Env}
 use Rattle.lil_scope.specs.declared.thing.Kind.TheVariants as k
 use Rattle.lil_kinds.specs.declared.found.Form.TheVariants as form
@@ -121,7 +122,7 @@ index_step e bracket o i = after i.value (index_node e.types bracket o)
 abbrev pub selector_layer : Env → Selector-F Sense Step Way Operates Joins → Step
 selector_layer e (x.Field dot i) o = field_node e dot i o
 selector_layer e (x.Index bracket is) o = walk (index_step e bracket) o is
-selector_layer e (x.Follow arrow) o = follow_node e.types arrow o
+selector_layer e (x.Follow arrow) o = follow_node e arrow o
 
 abbrev pub designator_layer : Env → Designator-F Sense Step Way Operates Joins → Way
 designator_layer e d = record { first = d.first.place; reach = λ p. after (root_means e p d.first) (λ o. walk (λ o s. s o) o d.selectors) }
@@ -155,6 +156,14 @@ module _ (e : Env) where
 
 unfoldable pub means : Env → Expr → Option Found × List Row
 means e x = (sense e x).value
+
+-- what must be constant. 51 NotConst, at its first token: it has no type though none of its tests finds a fault, as what lies
+-- behind a pointer whose target is declared later
+unfoldable pub as_constant : {A : Type 0} → Place → Option A × List Row → Option A × List Row
+as_constant p m = (m.0, m.1 ++ row (is_none m.0 && has_no_fault m.1) p NotConst ∷ [])
+
+abbrev pub asked_means : Env → Expr → Option Found × List Row
+asked_means e x = as_constant (first_place x) (means e x)
 
 unfoldable pub typed_means : Env → Expr → Argument × List Row
 typed_means e x = (sense e x).typed

@@ -12,7 +12,7 @@ use lil_kinds::{
 };
 use lil_operators::raised;
 use lil_report::Report;
-use lil_scope::{Env, Kind, Thing, Variable, find_in};
+use lil_scope::{Env, Kind, Thing, Variable, find_in, waits_for};
 use lil_text::Ident;
 use lil_types::{CARDINAL, CHAR, TypeId, TypeTable};
 use std::alloc::Global;
@@ -562,6 +562,34 @@ fn part_follow(
     Ok(value)
 }
 
+fn is_waiting(env: &Env, kind: Kind) -> bool
+    ensures { result ≡ spec.is_waiting env.now kind }
+{
+    match kind {
+        Kind::Of(sort) => waits_for(env, sort),
+        _ => false,
+    }
+}
+
+/// An arrow behind a variable or a part of one. Nothing lies behind a pointer whose target the block declares later.
+#[tactic(auto, unfolding(lil_report::specs::Told::tell))]
+fn reached_follow(
+    env: &Env,
+    report: &mut Report,
+    arrow: Place,
+    of: Part,
+) -> Result<Option<Reached>, Memory>
+    ensures { IfOk result (λ o. Said (spec.reached_follow env.now arrow of) report.old o report.new) }
+{
+    if is_waiting(env, of.kind) {
+        drop(of);
+        Ok(None)
+    } else {
+        let value = part_follow(&env.types, report, arrow, of)?;
+        Ok(value)
+    }
+}
+
 /// An arrow behind what is no variable.
 #[tactic(auto, unfolding(crate::specs::Designators::other_follow, lil_report::specs::Told::tell))]
 fn other_follow(report: &mut Report, arrow: Place, of: Named) -> Option<Reached>
@@ -576,17 +604,17 @@ fn other_follow(report: &mut Report, arrow: Place, of: Named) -> Option<Reached>
 /// An arrow.
 #[tactic(auto, unfolding(lil_report::specs::Told::tell))]
 pub(crate) fn follow_node(
-    types: &TypeTable,
+    env: &Env,
     report: &mut Report,
     arrow: Place,
     of: Option<Reached>,
 ) -> Result<Option<Reached>, Memory>
-    ensures { IfOk result (λ o. Said (spec.follow_node types.now arrow of) report.old o report.new) }
+    ensures { IfOk result (λ o. Said (spec.follow_node env.now arrow of) report.old o report.new) }
 {
     match of {
         None => Ok(None),
         Some(Reached::Part(part)) => {
-            let value = part_follow(types, report, arrow, part)?;
+            let value = reached_follow(env, report, arrow, part)?;
             Ok(value)
         }
         Some(Reached::Other(named)) => Ok(other_follow(report, arrow, named)),

@@ -12,4 +12,4 @@ mod values;
 pub use asked::Asked;
 pub use designators::{Named, Part, Reached};
 pub use names::{Looked, look, type_named};
-pub use values::{boxed_expression, call, expression, variable};
+pub use values::{asked_expression, boxed_asked, boxed_expression, call, expression, variable};

@@ -1,5 +1,5 @@
-ghost use Rattle.std.specs.Prelude.{◌≡◌, [], IfOk, Option};
-ghost use Rattle.lil_report.specs.Told.{Said, walk};
+ghost use Rattle.std.specs.Prelude.{◌≡◌, [], IfOk, Option, ◌&&◌, is_none};
+ghost use Rattle.lil_report.specs.{Least.now_of, Told.{Said, walk}};
 ghost use Rattle.lil_operators.specs.{Operations.{Elements, all_gathered}, Gathering.Gathers};
 ghost use Rattle.lil_check_value.specs.Values as spec;
 
@@ -8,10 +8,10 @@ use crate::designators::{Reached, field_node, follow_node, index_node, root};
 use crate::literals::{code, text, whole};
 use crate::set_types::set_sort;
 use crate::uses::{callee_node, typed_node, value_node, variable_node};
-use lil_base::{Boxed, Items, Memory, Place, beside};
+use lil_base::{Boxed, FaultKind, Items, Memory, Place, beside};
 use lil_call::{Argument, called, stated};
 use lil_kinds::Found;
-use lil_language::{Designator, Expr, Operation, Range, Selector};
+use lil_language::{Designator, Expr, Operation, Range, Selector, first_place};
 use lil_operators::{
     Chained, Gathered, begun, chain_found, joined_one, joined_range, no_elements, one_node,
     set_node, two_node,
@@ -79,7 +79,7 @@ fn selected(
             Ok(found)
         }
         Selector::Follow(arrow) => {
-            let found = follow_node(&env.types, report, *arrow, of)?;
+            let found = follow_node(env, report, *arrow, of)?;
             Ok(found)
         }
     }
@@ -313,6 +313,43 @@ pub fn boxed_expression(
     ensures { IfOk result (λ o. Said (spec.means env.now of.now) report.old o report.new) }
 {
     let found = expression(alloc, env, report, of.get())?;
+    Ok(found)
+}
+
+fn is_untold(found: &Option<Found>, own: &Report) -> bool
+    ensures { result ≡ (is_none found.now && is_none (now_of own.now)) }
+{
+    found.is_none() && own.worst_now().is_none()
+}
+
+/// What an expression means that must be constant: it is none (51) where it has no type though none of its tests finds a fault.
+pub fn asked_expression(
+    alloc: Global,
+    env: &Env,
+    report: &mut Report,
+    of: &Expr,
+) -> Result<Option<Found>, Memory>
+    ensures { IfOk result (λ o. Said (spec.asked_means env.now of.now) report.old o report.new) }
+{
+    let mut own = Report::new();
+    let found = expression(alloc, env, &mut own, of)?;
+    let untold = is_untold(&found, &own);
+    let first = first_place(of);
+    own.note(untold, first, FaultKind::NotConst);
+    report.note_all(&own);
+    Ok(found)
+}
+
+/// The same of an expression in a block of its own.
+pub fn boxed_asked(
+    alloc: Global,
+    env: &Env,
+    report: &mut Report,
+    of: &Boxed<Expr>,
+) -> Result<Option<Found>, Memory>
+    ensures { IfOk result (λ o. Said (spec.asked_means env.now of.now) report.old o report.new) }
+{
+    let found = asked_expression(alloc, env, report, of.get())?;
     Ok(found)
 }
 

@@ -5,7 +5,7 @@ use Rattle.lil_base.specs.declared.fault.{Place.Place, FaultKind.{FaultKind, The
 use Rattle.lil_text.specs.declared.tree.Ident.{Ident}
 use Rattle.lil_types.specs.Types.{Table}
 use Rattle.lil_declared.specs.declared.declared.RVar.{RVar}
-use Rattle.lil_scope.specs.{Built.built, Names.member, declared.{env.Env.Env, thing.{Thing.Thing, Variable.Variable}}}
+use Rattle.lil_scope.specs.{Built.built, Names.{member, waits_for}, declared.{env.Env.Env, thing.{Thing.Thing, Variable.Variable}}}
 use Rattle.lil_scope.specs.declared.thing.Kind.TheVariants as k
 use Rattle.lil_scope.specs.declared.thing.Thing.TheVariants as t
 use Rattle.lil_kinds.specs.{Forms.{array_parts, field, is_record, target}, Kinds.{assignable, misses}, declared.{forms.FieldAt.FieldAt, found.{Found.Found, Located.Located, Standing.Standing}}}
@@ -20,10 +20,10 @@ use Rattle.lil_forms.specs.Places as places
 use Rattle.lil_call.specs.declared.call.Argument.TheVariants as argument
 use Rattle.lil_operators.specs.Operations.{raised}
 use Rattle.lil_check_value.specs.{declared.{designators.{Named.Named, Part.Part, Reached.Reached}, names.Looked.{Looked, TheVariants.{Nothing, Field, Thing as Declared}}}, Looks.{look, looked_as, is_hidden_thing}}
-use Rattle.lil_check_value.specs.Designators.{variable_place, kind_by, whole_part, thing_reached, held_field, name_node, root_means, is_misplaced, refused_rows, record_kind, field_of, field_found, field_value, part_field, module_block, other_field_by, other_field, field_node, parts_of, with_index, index_fits, element_found, element_value, index_rows, part_index, other_index, index_node, opaque_kind, target_of, target_found, target_value, part_follow, other_follow, follow_node, located_form, part_found, no_value, text_form, thing_found, named_value, value_node, variable_node, part_callee, thing_callee, callee_node, type_in, no_type_in, part_typed, typed_node}
+use Rattle.lil_check_value.specs.Designators.{variable_place, kind_by, whole_part, thing_reached, held_field, name_node, root_means, is_misplaced, refused_rows, record_kind, field_of, field_found, field_value, part_field, module_block, other_field_by, other_field, field_node, parts_of, with_index, index_fits, element_found, element_value, index_rows, part_index, other_index, index_node, opaque_kind, target_of, target_found, target_value, part_follow, is_waiting, reached_follow, other_follow, follow_node, located_form, part_found, no_value, text_form, thing_found, named_value, value_node, variable_node, part_callee, thing_callee, callee_node, type_in, no_type_in, part_typed, typed_node}
 use Rattle.lil_check_value.specs.declared.designators.Reached.TheVariants as reached
 use Rattle.lil_right_call.specs.Told.{ArgumentTold, CalleeTold}
-use Rattle.lil_right_type.specs.{Found.{KindTold, LiesAt, GoesWith, bare, IsLocated, HasPlace, IsFound, ThingTold, EnvTold}, Parts.{IsArray, IsPointer, array_is, field_is, target_is, never_opaque}, Right.{Clear, Right, IsThere, is_so}, Typed.{Suits, kept_if, assignable_stores, stores_suits}, Types.{IsOrdinal, known_ordinal}}
+use Rattle.lil_right_type.specs.{Found.{KindTold, LiesAt, GoesWith, bare, IsLocated, HasPlace, IsFound, ThingTold, EnvTold}, Parts.{IsArray, IsPointer, array_is, field_is, target_is, never_opaque}, Right.{Clear, Right, IsThere, IsThereOr, there_or, is_so}, Typed.{Suits, kept_if, assignable_stores, stores_suits}, Types.{IsOrdinal, known_ordinal}}
 use Rattle.lil_right_value.specs.{Names.{LookTold, look_told, looked_told, member_told}, Operators.{IsRaised, raised_is}}
 
 -- ---- depths of places
@@ -267,11 +267,20 @@ module _ (e : Env) (P : Property e.types e.variables e.withs) (told : EnvTold e)
           (subst (λ o. IsThere ReachedTold (target_found e.types a o)) (sym (is_target (Some m) at))
           (record { sort = m; is = refl; lies = g.target; place = pointed_told h.sort a.depth m a.place g h.place; some = h.some; few = h.few }))
 
-  pub follow_right : (arrow : Place) (o : Option Reached) → IsThere ReachedTold o → Right (IsThere ReachedTold) (follow_node e.types arrow o)
-  unfolding other_follow
-  follow_right arrow None h clear = h
-  follow_right arrow (Some (reached.Part a)) h clear = part_follow_right arrow a h clear
-  follow_right arrow (Some (reached.Other o)) h clear = refused o arrow NotPointer clear
+  -- nothing may lie behind one that waits for its target, and then W is so
+  module _ (W : Type 0) (waits : (n : ℕ) → waits_for e n ≡ true → W) where
+    reached_follow_right : (arrow : Place) (a : Part) → PartTold P a → Right (IsThereOr W ReachedTold) (reached_follow e arrow a)
+    reached_follow_right arrow a h = by (is_waiting e a.kind) refl
+      where
+        by : (c : Bool) → is_waiting e a.kind ≡ c → Right (IsThereOr W ReachedTold) (if c then (None, []) else part_follow e.types arrow a)
+        by true is clear = waits h.sort (sym (ap (is_waiting e) h.is) ∙ is)
+        by false is clear = there_or W ReachedTold (part_follow e.types arrow a).0 (part_follow_right arrow a h clear)
+
+    pub follow_right : (arrow : Place) (o : Option Reached) → IsThereOr W ReachedTold o → Right (IsThereOr W ReachedTold) (follow_node e arrow o)
+    unfolding other_follow
+    follow_right arrow None h clear = h
+    follow_right arrow (Some (reached.Part a)) h clear = reached_follow_right arrow a h clear
+    follow_right arrow (Some (reached.Other o)) h clear = refused o arrow NotPointer clear
 
   -- ---- uses
   thing_right : (o : Named) → NamedTold o.thing → Right (IsThere (IsFound P)) (named_value e.texts o)
