@@ -12,7 +12,7 @@ use Rattle.lil_types.specs.declared.table.TypeForm.{TypeForm}
 use Rattle.lil_report.specs.{declared.report.Fault.Fault, Told.{after, walk, Said}, Laws.{said_as, said_after, walk_map}}
 use Rattle.lil_scope.specs.declared.env.Env.{Env}
 use Rattle.lil_kinds.specs.declared.found.Found.{Found}
-use Rattle.lil_check_value.specs.{Looks.not_built, Values.means}
+use Rattle.lil_check_value.specs.{Looks.not_built, Values.asked_means}
 use Rattle.lil_check_type.specs.{declared.{bounds.Bound.Bound, named.NamedType.NamedType, records.Fields.Fields}, Walks.walk_steps, Made.{Made, form_node}, Bounds.{bound_of, range_node}, Simple.{base_means, simple_means, set_means}, Labels.{no_labels, label_step}, Records.{tag_means, no_fields, with_labels, record_node, procedure_means}}
 use Rattle.lil_check_type.specs.Sorts.{index_step, array_step, array_means, pointer_means, bare_name, Sense, Part, Cased, FieldSense, VariantSense, fields_by, named_fields, variants_by, case_fields, field_layer, variant_layer, sort_layer, sense, fields_sense, variant_sense, fields_rolled, sort_rolled, sort_means, list_step, lists_mean, others_mean, variants_mean, record_means}
 
@@ -62,7 +62,7 @@ pub ruleset sort_steps = (walk_steps, variant_is, named_is, cases_are, scalar_is
 -- ---- what is said of a form, from what is said of its parts
 module _ (e : Env) {r : Option Fault} where
   pub is_range : {of : Simple} {x y : Expr} {p : Place} {q : Option Qualident} {n : NamedType} {a b : Option Found} {c d : Option Bound} {f : Option TypeForm} {m : Made} {s t u v w : Option Fault}
-      → of ≡ simple.Subrange p q x y → Said (base_means e q) r n t → Said (means e x) t a u → Said (means e y) u b v → c ≡ bound_of a → d ≡ bound_of b
+      → of ≡ simple.Subrange p q x y → Said (base_means e q) r n t → Said (asked_means e x) t a u → Said (asked_means e y) u b v → c ≡ bound_of a → d ≡ bound_of b
       → Said (range_node e.types p n c d) v f w → Said (form_node e p f) w m s → Said (simple_means e of) r m s
   unfolding simple_means
   is_range {p = p} {n = n} {a = a} {d = d} {f = f} {m = m} {s = s} {v = v} {w = w} is h k l low high i j = subst (λ x. Said (simple_means e x) r m s) (sym is)

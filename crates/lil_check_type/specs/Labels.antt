@@ -5,7 +5,7 @@ use Rattle.lil_language.specs.declared.tree.{Expr.Expr, Range.Range}
 use Rattle.lil_types.specs.{declared.table.Span.Span, Types.Table}
 use Rattle.lil_report.specs.Told.{Row, row, after}
 use Rattle.lil_scope.specs.declared.env.Env.{Env}
-use Rattle.lil_check_value.specs.Values.{means}
+use Rattle.lil_check_value.specs.Values.{asked_means}
 use Rattle.lil_check_type.specs.{declared.{bounds.Bound.Bound, labels.Labels.Labels}, Nodes.node, Bounds.{bound_of, is_empty, span_between, constant_rows}, SortedSpans.has_value_of}
 
 -- ---- the values of the labels before
@@ -40,10 +40,10 @@ range_node t _ us _ _ = (None, [])
 
 abbrev pub label_rest : Env → Option ℕ → List Span → Option Bound → Option Expr → Option Span × List Row
 label_rest e of us a None = one_node e.types of us a
-label_rest e of us a (Some y) = after (means e y) (λ b. range_node e.types of us a (bound_of b))
+label_rest e of us a (Some y) = after (asked_means e y) (λ b. range_node e.types of us a (bound_of b))
 
 abbrev pub label_means : Env → Option ℕ → List Span → Range → Option Span × List Row
-label_means e of us r = after (means e r.low) (λ a. label_rest e of us (bound_of a) r.high)
+label_means e of us r = after (asked_means e r.low) (λ a. label_rest e of us (bound_of a) r.high)
 
 -- ---- the labels of a record's CASE: the values of all so far, and whether none has a fault
 abbrev pub no_labels : Labels

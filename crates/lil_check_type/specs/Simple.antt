@@ -10,7 +10,7 @@ use Rattle.lil_report.specs.Told.{Row, row, after, walk}
 use Rattle.lil_scope.specs.declared.thing.Kind.TheVariants as k
 use Rattle.lil_scope.specs.{declared.{thing.Thing.Thing, env.Env.Env}, Names.bind}
 use Rattle.lil_scope.specs.declared.thing.Thing.TheVariants as t
-use Rattle.lil_check_value.specs.{Looks.type_named, Values.means}
+use Rattle.lil_check_value.specs.{Looks.type_named, Values.asked_means}
 use Rattle.lil_check_type.specs.{declared.named.NamedType.{NamedType, TheVariants.{Absent, Given, Faulty}}, Made.{Made, type_node, form_node, span_of, ordinal_node}, Bounds.{bound_of, range_node}}
 
 -- ---- enumerations: each constant is bound in the block at hand, behind itself
@@ -48,7 +48,7 @@ base_means e (Some q) = after (type_named e q) (λ o. after (ordinal_node e.type
 unfoldable pub simple_means : Env → Simple → Made × List Row
 simple_means e (simple.Named q) = after (type_named e q) (λ o. ((e, o), []))
 simple_means e (simple.Enumeration p is) = enumeration_means e p is
-simple_means e (simple.Subrange p q x y) = after (base_means e q) (λ n. after (means e x) (λ a. after (means e y) (λ b. after (range_node e.types p n (bound_of a) (bound_of b)) (form_node e p))))
+simple_means e (simple.Subrange p q x y) = after (base_means e q) (λ n. after (asked_means e x) (λ a. after (asked_means e y) (λ b. after (range_node e.types p n (bound_of a) (bound_of b)) (form_node e p))))
 
 -- ---- where a type is wrong: at its name, or at its first token
 abbrev pub simple_place : Simple → Place

@@ -8,7 +8,7 @@ use Rattle.lil_language.specs.declared.unit.FieldList.TheOpen as o
 use Rattle.lil_types.specs.{declared.table.TypeForm.TypeForm, Types.{proc, process}}
 use Rattle.lil_types.specs.declared.table.TypeForm.TheVariants as form
 use Rattle.lil_report.specs.Told.{Row, after, walk}
-use Rattle.lil_scope.specs.{declared.{env.Env.Env, thing.Thing.Thing}, Names.find}
+use Rattle.lil_scope.specs.{declared.{env.Env.Env, thing.Thing.Thing}, Names.{find, is_later}}
 use Rattle.lil_scope.specs.declared.thing.Thing.TheVariants as t
 use Rattle.lil_check_value.specs.Looks.{not_built}
 use Rattle.lil_check_type.specs.{declared.{records.Fields.Fields, labels.Labels.Labels}, Made.{Made, type_node, form_node}, Simple.{simple_means, index_means, set_means}, Labels.{no_labels, label_step}, Records.{no_fields, field_step, tag_means, with_labels, record_node, procedure_means}}
@@ -27,9 +27,9 @@ array_step p m i = form_node m.0 p (array_form i m.1)
 abbrev pub array_means : Env → Place → List Simple → (Env → Made × List Row) → Made × List Row
 array_means e p xs element = after (walk index_step (e, []) xs) (λ s. after (element s.0) (λ m. walk (array_step p) m (reverse s.1)))
 
--- ---- pointers: a bare name is looked up at the end of the block
+-- ---- pointers: a bare name is looked up at the end of the block. Nothing lies there before if the block declares it later
 abbrev pub with_wait : Env → Option ℕ → Ident → Env
-with_wait e (Some n) i = record e { waits = e.waits ++ record { pointer = n; place = i.place; name = i.name } ∷ [] }
+with_wait e (Some n) i = record e { waits = e.waits ++ record { pointer = n; place = i.place; name = i.name; later = is_later e i.name } ∷ [] }
 with_wait e None i = e
 
 abbrev pub pointer_form : Option ℕ → Option TypeForm

@@ -6,7 +6,7 @@ ghost use Rattle.lil_check_type.specs.Labels as spec;
 use crate::bounds::{Bound, bound_of, constant_tests, is_empty, span_between};
 use crate::spans::Spans;
 use lil_base::{Boxed, FaultKind, Memory};
-use lil_check_value::{boxed_expression, expression};
+use lil_check_value::{asked_expression, boxed_asked};
 use lil_language::{Expr, Range};
 use lil_report::Report;
 use lil_scope::Env;
@@ -110,7 +110,7 @@ fn label_rest(
 {
     match high {
         Some(y) => {
-            let b = boxed_expression(alloc, env, report, y)?;
+            let b = boxed_asked(alloc, env, report, y)?;
             Ok(range(&env.types, report, of, before, a, bound_of(b)))
         }
         None => Ok(one(&env.types, report, of, before, a)),
@@ -129,7 +129,7 @@ pub fn label(
 ) -> Result<Option<Span>, Memory>
     ensures { IfOk result (λ s. Said (spec.label_means env.now of before.now label.now) report.old s report.new) }
 {
-    let a = expression(alloc, env, report, &label.low)?;
+    let a = asked_expression(alloc, env, report, &label.low)?;
     label_rest(alloc, env, report, of, before, bound_of(a), &label.high)
 }
 

@@ -6,7 +6,7 @@ use crate::bounds::{bound_of, range};
 use crate::made::{add_form, add_type, ordinal, span_of};
 use crate::named::NamedType;
 use lil_base::{FaultKind, Items, Memory, Name, Place};
-use lil_check_value::{boxed_expression, type_named};
+use lil_check_value::{boxed_asked, type_named};
 use lil_language::Simple;
 use lil_report::Report;
 use lil_scope::{Env, Kind, Thing, bind};
@@ -132,9 +132,9 @@ pub fn simple(
         ),
         Simple::Subrange(place, q, x, y) => {
             let named = range_base(env, report, q);
-            let a = boxed_expression(alloc, env, report, x)?;
+            let a = boxed_asked(alloc, env, report, x)?;
             let a = bound_of(a);
-            let b = boxed_expression(alloc, env, report, y)?;
+            let b = boxed_asked(alloc, env, report, y)?;
             let form = range(&env.types, report, *place, named, a, bound_of(b));
             let sort = add_form(env, report, *place, form)?;
             Ok(sort)

@@ -10,7 +10,7 @@ use crate::simple::{index, set, simple};
 use lil_base::{FaultKind, Memory, Place};
 use lil_language::{FieldList, Simple, Sort, Variant};
 use lil_report::Report;
-use lil_scope::{Env, Thing, Wait};
+use lil_scope::{Env, Thing, Wait, is_later};
 use lil_text::Ident;
 use lil_types::{PROC, PROCESS, TypeForm, TypeId};
 use std::alloc::Global;
@@ -61,11 +61,13 @@ fn add_wait(alloc: Global, env: &mut Env, pointer: Option<TypeId>, of: &Ident) -
 {
     match pointer {
         Some(pointer) => {
+            let later = is_later(env, &of.name);
             let name = of.name.copy(alloc)?;
             env.waits.push(Wait {
                 pointer,
                 place: of.place,
                 name,
+                later,
             })
         }
         None => Ok(()),

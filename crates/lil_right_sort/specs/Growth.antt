@@ -385,9 +385,9 @@ module _ (e : Env) (h : Declared e) where
       let told = added_told e.types o form h.told.types h.told.words parts few in
       declared_kept (added e.types o form) (grown_kept e.types _ (added_grown e.types o form)) told.0 told.1
 
-  -- the pointers that wait don't matter
-  pub declared_waits : (ws : List Wait) → Declared (record e { waits = ws })
-  declared_waits ws = declared_in (record e { waits = ws }) refl refl (record { types = h.told.types; words = h.told.words; names = h.told.names }) h.residents h.variables
+  -- the pointers that wait and the names of types that come don't matter
+  pub declared_waits : (ws : List Wait) (ns : List (List ℕ)) → Declared (record e { waits = ws; coming = ns })
+  declared_waits ws ns = declared_in (record e { waits = ws; coming = ns }) refl refl (record { types = h.told.types; words = h.told.words; names = h.told.names }) h.residents h.variables
 
   -- a name more in a block, and a block more, without names
   pub bound_declared : (k : ℕ) (n : List ℕ) (x : Entry) → IsThing e x.thing → Declared (with_blocks e (bound_at e.scopes.blocks k n x))

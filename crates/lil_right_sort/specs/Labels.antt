@@ -6,18 +6,18 @@ use Rattle.lil_report.specs.Told.{Row, after}
 use Rattle.lil_scope.specs.declared.env.Env.{Env}
 use Rattle.lil_kinds.specs.declared.found.Found.{Found}
 use Rattle.lil_forms.specs.Properties.{nothing}
-use Rattle.lil_check_value.specs.Values.{means}
+use Rattle.lil_check_value.specs.Values.{asked_means}
 use Rattle.lil_check_type.specs.{Bounds.bound_of, Labels.{label_rest, label_means}}
 use Rattle.lil_right_type.specs.{Right.{Right, IsThere, after_right}, Found.{EnvTold, IsKnown}}
-use Rattle.lil_right_value.specs.Values.{means_right}
+use Rattle.lil_right_value.specs.Values.{asked_right}
 use Rattle.lil_right_sort.specs.Ranges.{HasBase, Numbered, one_right, several_right}
 
 module _ (e : Env) (told : EnvTold e) (n : ℕ) (of : HasBase e.types n) (us : List Span) where
   pub label_right : (r : Range) → Right (IsThere (Numbered of.0)) (label_means e (Some n) us r)
   label_right r = behind r.low (λ o. label_rest e (Some n) us (bound_of o) r.high) (λ a h. rest a h r.high)
     where
-      behind : (x : Expr) (k : Option Found → Option Span × List Row) → ((a : Found) → IsKnown e a → Right (IsThere (Numbered of.0)) (k (Some a))) → Right (IsThere (Numbered of.0)) (after (means e x) k)
-      behind x k then = after_right (IsThere (IsKnown e)) (IsThere (Numbered of.0)) (means e x) k (means_right e (nothing e.types e.variables e.withs) told x) by
+      behind : (x : Expr) (k : Option Found → Option Span × List Row) → ((a : Found) → IsKnown e a → Right (IsThere (Numbered of.0)) (k (Some a))) → Right (IsThere (Numbered of.0)) (after (asked_means e x) k)
+      behind x k then = after_right (IsThere (IsKnown e)) (IsThere (Numbered of.0)) (asked_means e x) k (asked_right e (nothing e.types e.variables e.withs) told x) by
         where
           by : (o : Option Found) → IsThere (IsKnown e) o → Right (IsThere (Numbered of.0)) (k o)
           by None h = absurd h

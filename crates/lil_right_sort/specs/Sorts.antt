@@ -70,7 +70,7 @@ target_lies e (Some _) h = refl
 
 wait_right : (e f : Env) (o : Option ℕ) (i : Ident) → SortTold e (f, o) → SortTold e (with_wait f o i, o)
 wait_right e f None i h = h
-wait_right e f (Some n) i h = (h.0, λ few. (declared_waits f (h.1 few).0 _, (h.1 few).1))
+wait_right e f (Some n) i h = (h.0, λ few. (declared_waits f (h.1 few).0 _ f.coming, (h.1 few).1))
 
 waiting_right : (e : Env) → Begun e → (p : Place) (i : Ident) → Right (SortTold e) (waiting_means e p i)
 waiting_right e begun p i =
