@@ -278,6 +278,39 @@ const CHECKED: &[(&[u8], &[u8])] = &[
         b"TYPE r=RECORD CASE c:CARDINAL OF 200..\"a\":END END;",
         b"48: 31 Assign",
     ),
+    // behind a pointer to a type that is declared later nothing lies until the declarations end
+    (
+        b"TYPE P=POINTER TO R;R=RECORD n:P END;VAR p:P;CONST c=p^.n;",
+        b"63: 51 NotConst",
+    ),
+    (
+        b"TYPE R=RECORD n:CARDINAL END;P=POINTER TO R;VAR p:P;CONST c=p^.n;",
+        b"70: 51 NotConst",
+    ),
+    (
+        b"TYPE P=POINTER TO R;R=RECORD n:CARDINAL END;VAR p:P;CONST c=1+p^.n;",
+        b"70: 51 NotConst",
+    ),
+    (
+        b"TYPE P=POINTER TO R;R=RECORD n:CARDINAL END;VAR p:P;CONST c=p^.n+nix;",
+        b"75: 20 Unknown",
+    ),
+    (
+        b"TYPE P=POINTER TO R;R=RECORD n:CARDINAL END;VAR p:P;t:[p^.n..3];",
+        b"65: 51 NotConst",
+    ),
+    (
+        b"TYPE P=POINTER TO R;R=RECORD n:CARDINAL END;VAR p:P;r:RECORD CASE k:CARDINAL OF p^.n: END END;",
+        b"90: 51 NotConst",
+    ),
+    (
+        b"TYPE P=POINTER TO CHAR;VAR p:P;CONST c=p^.n;",
+        b"51: 36 NotRecord",
+    ),
+    (
+        b"TYPE P=POINTER TO P;VAR p:P;BEGIN p:=p^;p:=1 ",
+        b"53: 31 Assign",
+    ),
     (b"VAR a:ARRAY CARDINAL OF CHAR;", b"16: 61 DataTooLong"),
     // data above 32,000 words
     (
