@@ -1,5 +1,5 @@
 -- What each form of declaration means, from what its parts mean.
-use Rattle.std.proofs.Common.{◌≡◌, ℕ, true, List, length, Option, Some, None, sym, ap, subst, ◌∙◌}
+use Rattle.std.proofs.Common.{◌≡◌, ℕ, true, List, [], length, map, Option, Some, None, sym, ap, subst, ◌∙◌}
 use Rattle.lil_base.specs.declared.fault.{FaultKind.TheVariants.NotBuilt, Place.Place}
 use Rattle.lil_language.specs.declared.unit.{Section.Section, Constant.Constant, TypeName.TypeName, Variables.Variables, Heading.Heading, Decl.{Decl, TheOpen.Decl-F, TheFolds.{map-Decl, fold-Block, fold-roll-Decl, fold_out-Block}, TheViews.roll-Decl}, Block.{Block, out-Block}}
 use Rattle.lil_language.specs.declared.unit.Decl.TheVariants as d
@@ -8,42 +8,47 @@ use Rattle.lil_report.specs.{declared.report.Fault.Fault, Told.{Row, row, noted,
 use Rattle.lil_scope.specs.{declared.env.Env.Env, Names.{inside, outside, with_block}}
 use Rattle.lil_check_value.specs.Looks.{said_not_built}
 use Rattle.lil_check_type.specs.{Walks.walk_steps, Made.Made, Records.no_parameters}
-use Rattle.lil_check_decl.specs.{declared.{decl.Around.Around, home.Home.Home}, Constants.constant_step, Headings.{Headed, section_step, home_at, named_means, heading_type, heading_means}, Decls.{decl_step, around, back, type_step, variables_step, wait_step, settled, procedure_means, decl_layer, block_layer, decl_means, decls_mean}}
+use Rattle.lil_check_decl.specs.{declared.{decl.Around.Around, home.Home.Home}, Constants.constant_step, Headings.{Headed, section_step, home_at, named_means, heading_type, heading_means}, Decls.{Means, Sense, with_no_types, expecting, decl_step, around, back, type_step, variables_step, wait_step, settled, procedure_means, decl_layer, block_layer, decl_sense, decls_mean}}
 
-block_means : Block → Env → Env × List Row
-block_means = fold-Block (Env → Env × List Row) (Env → Env × List Row) decl_layer block_layer
+block_means : Block → Means
+block_means = fold-Block Sense Means decl_layer block_layer
 
-rolled : (x : Decl-F Decl Block) → decl_means (roll-Decl x) ≡ decl_layer (map-Decl Decl Block (Env → Env × List Row) (Env → Env × List Row) decl_means block_means x)
-unfolding decl_means block_means
-rolled = fold-roll-Decl (Env → Env × List Row) (Env → Env × List Row) decl_layer block_layer
+rolled : (x : Decl-F Decl Block) → decl_sense (roll-Decl x) ≡ decl_layer (map-Decl Decl Block Sense Means decl_sense block_means x)
+unfolding decl_sense block_means
+rolled = fold-roll-Decl Sense Means decl_layer block_layer
 
 block_is : (b : Block) (e : Env) → block_means b e ≡ decls_mean e (out-Block b).decls
-unfolding decl_means block_means decls_mean
-block_is b e = ap (λ m. m e) (fold_out-Block (Env → Env × List Row) (Env → Env × List Row) decl_layer block_layer b)
-    ∙ (λ j. after (walk_map (λ e m. m e) decl_means e (out-Block b).decls j) (λ f. walk wait_step (settled f) f.waits))
+unfolding decl_sense block_means decls_mean
+block_is b e = ap (λ m. m e) (fold_out-Block Sense Means decl_layer block_layer b)
+    ∙ (λ j. after (walk_map (λ (e : Env) (s : Sense). s.means e) decl_sense (expecting e (map decl_sense (out-Block b).decls)) (out-Block b).decls j) (λ f. walk wait_step (settled f) f.waits))
 
-pub constants_are : (p : Place) (xs : List Constant) (e : Env) → decl_means (d.ConstIs p xs) e ≡ walk constant_step e xs
-constants_are p xs e = ap (λ m. m e) (ap decl_means (sym (d.rolls-ConstIs p xs)) ∙ rolled (o.ConstIs p xs))
+pub constants_are : (p : Place) (xs : List Constant) → decl_sense (d.ConstIs p xs) ≡ with_no_types (λ e. walk constant_step e xs)
+constants_are p xs = ap decl_sense (sym (d.rolls-ConstIs p xs)) ∙ rolled (o.ConstIs p xs)
 
-pub types_are : (p : Place) (xs : List TypeName) (e : Env) → decl_means (d.TypeIs p xs) e ≡ walk type_step e xs
-types_are p xs e = ap (λ m. m e) (ap decl_means (sym (d.rolls-TypeIs p xs)) ∙ rolled (o.TypeIs p xs))
+pub types_are : (p : Place) (xs : List TypeName) → decl_sense (d.TypeIs p xs) ≡ record { types = xs; means = λ e. walk type_step e xs }
+types_are p xs = ap decl_sense (sym (d.rolls-TypeIs p xs)) ∙ rolled (o.TypeIs p xs)
 
-pub variables_are : (p : Place) (xs : List Variables) (e : Env) → decl_means (d.VarsAre p xs) e ≡ walk variables_step e xs
-variables_are p xs e = ap (λ m. m e) (ap decl_means (sym (d.rolls-VarsAre p xs)) ∙ rolled (o.VarsAre p xs))
+pub variables_are : (p : Place) (xs : List Variables) → decl_sense (d.VarsAre p xs) ≡ with_no_types (λ e. walk variables_step e xs)
+variables_are p xs = ap decl_sense (sym (d.rolls-VarsAre p xs)) ∙ rolled (o.VarsAre p xs)
 
-pub heading_is : (h : Heading) (e : Env) → decl_means (d.ProcIs h None) e ≡ heading_means e h
-heading_is h e = ap (λ m. m e) (ap decl_means (sym (d.rolls-ProcIs h None)) ∙ rolled (o.ProcIs h None))
+pub heading_is : (h : Heading) → decl_sense (d.ProcIs h None) ≡ with_no_types (λ e. heading_means e h)
+heading_is h = ap decl_sense (sym (d.rolls-ProcIs h None)) ∙ rolled (o.ProcIs h None)
 
-pub procedure_is : (h : Heading) (b : Block) (e : Env) → decl_means (d.ProcIs h (Some b)) e ≡ procedure_means e h (λ f. decls_mean f (out-Block b).decls)
-procedure_is h b e = ap (λ m. m e) (ap decl_means (sym (d.rolls-ProcIs h (Some b))) ∙ rolled (o.ProcIs h (Some b))) ∙ (λ j. procedure_means e h (λ f. block_is b f j))
+pub procedure_is : (h : Heading) (b : Block) → decl_sense (d.ProcIs h (Some b)) ≡ with_no_types (λ e. procedure_means e h (λ f. decls_mean f (out-Block b).decls))
+procedure_is h b = ap decl_sense (sym (d.rolls-ProcIs h (Some b))) ∙ rolled (o.ProcIs h (Some b)) ∙ (λ j. with_no_types (λ e. procedure_means e h (λ f. block_is b f j)))
 
 pub ruleset decl_steps = (walk_steps, constants_are, types_are, variables_are, heading_is, procedure_is)
+
+-- a procedure declares no type in the block around it
+pub no_types_of : (h : Heading) (body : Option Block) → (decl_sense (d.ProcIs h body)).types ≡ []
+no_types_of h None = ap (λ s. s.types) (heading_is h)
+no_types_of h (Some b) = ap (λ s. s.types) (procedure_is h b)
 
 -- ---- what is said of a form, from what is said of its parts
 module _ (e : Env) {r : Option Fault} where
   pub is_procedure : {of : Decl} (h : Heading) (b : Block) (ds : List Decl) {body : Option Block} {k n : ℕ} {a : Around} {f g v w : Env} {s t : Option Fault} → of ≡ d.ProcIs h body → body ≡ Some b → ds ≡ (out-Block b).decls
       → n ≡ length e.procedures → Said (heading_means e h) r f t → k ≡ length e.scopes.blocks → a ≡ around f → g ≡ inside k (Some n) f → Said (decls_mean g ds) t v s → w ≡ back a v → Said (decl_step e of) r w s
-  is_procedure h b ds {k = k} {n = n} {a = a} {f = f} {g = g} {v = v} {w = w} {s = s} {t = t} is some these number l num stands enters m leaves = said_as (ap (decl_step e) (is ∙ ap (d.ProcIs h) some) ∙ procedure_is h b e)
+  is_procedure h b ds {k = k} {n = n} {a = a} {f = f} {g = g} {v = v} {w = w} {s = s} {t = t} is some these number l num stands enters m leaves = said_as (ap (decl_step e) (is ∙ ap (d.ProcIs h) some) ∙ ap (λ s. s.means e) (procedure_is h b))
       (said_after _ _ l (said_to (said_map (outside f)
       (subst (λ ds. Said (decls_mean (inside (length e.scopes.blocks) (Some (length e.procedures)) f) ds) t v s) these
       (subst (λ k. Said (decls_mean (inside k (Some (length e.procedures)) f) ds) t v s) num

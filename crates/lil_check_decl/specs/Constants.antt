@@ -8,7 +8,7 @@ use Rattle.lil_scope.specs.declared.thing.Kind.TheVariants as k
 use Rattle.lil_scope.specs.declared.thing.Thing.TheVariants as t
 use Rattle.lil_kinds.specs.{Kinds.is_constant, declared.found.{Form.Form, Found.Found}}
 use Rattle.lil_kinds.specs.declared.found.Form.TheVariants as form
-use Rattle.lil_check_value.specs.Values.{means}
+use Rattle.lil_check_value.specs.Values.{asked_means}
 
 -- what is declared behind a name, and the name's thing
 abbrev pub Meant : Type 0
@@ -38,4 +38,4 @@ constant_node e None = ((e, t.Broken), [])
 
 -- a constant, whose name is bound behind its expression
 abbrev pub constant_step : Env → Constant → Env × List Row
-constant_step e c = after (means e c.value) (λ o. after (constant_node e o) (λ m. bind m.0 c.name m.1))
+constant_step e c = after (asked_means e c.value) (λ o. after (constant_node e o) (λ m. bind m.0 c.name m.1))

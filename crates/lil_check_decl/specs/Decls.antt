@@ -1,12 +1,12 @@
 -- What declarations mean: what is declared behind them, and the tests of their nodes.
-use Rattle.std.specs.Prelude.{ℕ, length, List, [], Option, Some, None}
+use Rattle.std.specs.Prelude.{ℕ, length, List, [], ◌∷◌, map, Option, Some, None}
 use Rattle.lil_text.specs.declared.tree.{Ident.Ident, Qualident.Qualident}
 use Rattle.lil_language.specs.declared.unit.{Sort.Sort, TypeName.TypeName, Variables.Variables, Heading.Heading, Decl.{Decl, TheOpen.{Decl-F, Block-F}, TheFolds.fold-Decl}}
 use Rattle.lil_language.specs.declared.unit.Decl.TheOpen as d
 use Rattle.lil_types.specs.declared.table.TypeForm.TheVariants as form
 use Rattle.lil_types.specs.Types.{aimed}
 use Rattle.lil_report.specs.Told.{Row, after, walk}
-use Rattle.lil_scope.specs.{declared.{thing.Thing.Thing, env.{Env.Env, Wait.Wait}}, Names.{bind, inside, outside}}
+use Rattle.lil_scope.specs.{declared.{thing.Thing.Thing, env.{Env.Env, Wait.Wait}}, Names.{bind, and_name, inside, outside}}
 use Rattle.lil_scope.specs.declared.thing.Thing.TheVariants as t
 use Rattle.lil_check_value.specs.Looks.{type_named, not_built}
 use Rattle.lil_check_type.specs.{Made.{Made, with_types, type_node}, Sorts.sort_means}
@@ -41,7 +41,7 @@ abbrev pub wait_step : Env → Wait → Env × List Row
 wait_step e w = after (type_named e (bare w)) (λ o. (pointing e w.pointer o, []))
 
 abbrev pub settled : Env → Env
-settled e = record e { waits = [] }
+settled e = record e { waits = []; coming = [] }
 
 -- ---- procedures: what is declared inside is seen there
 abbrev pub procedure_means : Env → Heading → (Env → Env × List Row) → Env × List Row
@@ -49,31 +49,53 @@ procedure_means e h body = after (heading_means e h) (λ g. after (body (inside 
 
 -- what stands around a block, and the block at hand again
 abbrev pub around : Env → Around
-around e = record { outer = e.scopes.outer; inner = e.scopes.inner; waits = e.waits; withs = e.withs; procedure = e.procedure }
+around e = record { outer = e.scopes.outer; inner = e.scopes.inner; waits = e.waits; coming = e.coming; withs = e.withs; procedure = e.procedure }
 
 abbrev pub back : Around → Env → Env
-back a f = record f { scopes = record f.scopes { outer = a.outer; inner = a.inner }; waits = a.waits; withs = a.withs; procedure = a.procedure }
+back a f = record f { scopes = record f.scopes { outer = a.outer; inner = a.inner }; waits = a.waits; coming = a.coming; withs = a.withs; procedure = a.procedure }
 
 abbrev pub routine_means : Env → Heading → Option (Env → Env × List Row) → Env × List Row
 routine_means e h (Some body) = procedure_means e h body
 routine_means e h None = heading_means e h
 
--- ---- declarations
-abbrev pub decl_layer : Decl-F (Env → Env × List Row) (Env → Env × List Row) → Env → Env × List Row
-decl_layer (d.ConstIs p xs) e = walk constant_step e xs
-decl_layer (d.TypeIs p xs) e = walk type_step e xs
-decl_layer (d.VarsAre p xs) e = walk variables_step e xs
-decl_layer (d.ProcIs h body) e = routine_means e h body
+-- ---- declarations: what one means, and the types that it declares
+abbrev pub Means : Type 0
+Means = Env → Env × List Row
 
-abbrev pub block_layer : Block-F (Env → Env × List Row) (Env → Env × List Row) → Env → Env × List Row
-block_layer b e = after (walk (λ e m. m e) e b.decls) (λ f. walk wait_step (settled f) f.waits)
+pub record Sense : Type 0 where
+  pub types : List TypeName
+  pub means : Means
 
-unfoldable pub decl_means : Decl → Env → Env × List Row
-decl_means = fold-Decl (Env → Env × List Row) (Env → Env × List Row) decl_layer block_layer
+abbrev pub with_no_types : Means → Sense
+with_no_types m = record { types = []; means = m }
+
+abbrev pub decl_layer : Decl-F Sense Means → Sense
+decl_layer (d.ConstIs p xs) = with_no_types (λ e. walk constant_step e xs)
+decl_layer (d.TypeIs p xs) = record { types = xs; means = λ e. walk type_step e xs }
+decl_layer (d.VarsAre p xs) = with_no_types (λ e. walk variables_step e xs)
+decl_layer (d.ProcIs h body) = with_no_types (λ e. routine_means e h body)
+
+-- the names of the types of a block, which are known before its declarations
+abbrev pub with_types_of : List (List ℕ) → List TypeName → List (List ℕ)
+with_types_of ns [] = ns
+with_types_of ns (x ∷ xs) = with_types_of (and_name ns x.name.name) xs
+
+abbrev pub with_types_in : List (List ℕ) → List Sense → List (List ℕ)
+with_types_in ns [] = ns
+with_types_in ns (s ∷ ss) = with_types_in (with_types_of ns s.types) ss
+
+abbrev pub expecting : Env → List Sense → Env
+expecting e ss = record e { coming = with_types_in [] ss }
+
+abbrev pub block_layer : Block-F Sense Means → Means
+block_layer b e = after (walk (λ (e : Env) (s : Sense). s.means e) (expecting e b.decls) b.decls) (λ f. walk wait_step (settled f) f.waits)
+
+unfoldable pub decl_sense : Decl → Sense
+decl_sense = fold-Decl Sense Means decl_layer block_layer
 
 -- the same of a block, over its trees
 abbrev pub decl_step : Env → Decl → Env × List Row
-decl_step e x = decl_means x e
+decl_step e x = (decl_sense x).means e
 
 unfoldable pub decls_mean : Env → List Decl → Env × List Row
-decls_mean e ds = after (walk decl_step e ds) (λ f. walk wait_step (settled f) f.waits)
+decls_mean e ds = after (walk decl_step (expecting e (map decl_sense ds)) ds) (λ f. walk wait_step (settled f) f.waits)

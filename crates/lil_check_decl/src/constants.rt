@@ -3,7 +3,7 @@ ghost use Rattle.lil_report.specs.Told.{Said, walk};
 ghost use Rattle.lil_check_decl.specs.Constants as spec;
 
 use lil_base::{FaultKind, Memory, Shared, Text};
-use lil_check_value::boxed_expression;
+use lil_check_value::boxed_asked;
 use lil_kinds::{Form, Found, is_constant};
 use lil_language::Constant;
 use lil_report::Report;
@@ -69,7 +69,7 @@ fn constant_value(env: &mut Env, report: &mut Report, of: Option<Found>) -> Resu
 fn constant(alloc: Global, env: &mut Env, report: &mut Report, of: &Constant) -> Result<(), Memory>
     ensures { IfOk result (λ o. Said (spec.constant_step env.old of.now) report.old env.new report.new) }
 {
-    let found = boxed_expression(alloc, env, report, &of.value)?;
+    let found = boxed_asked(alloc, env, report, &of.value)?;
     let thing = constant_value(env, report, found)?;
     bind(alloc, env, report, &of.name, thing)
 }

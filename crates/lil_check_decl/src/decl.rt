@@ -1,4 +1,4 @@
-ghost use Rattle.std.specs.Prelude.{◌≡◌, Some, IfOk};
+ghost use Rattle.std.specs.Prelude.{◌≡◌, [], map, Some, IfOk};
 ghost use Rattle.lil_report.specs.Told.{Said, walk};
 ghost use Rattle.lil_scope.specs.Names.{inside};
 ghost use Rattle.lil_check_decl.specs.Decls as spec;
@@ -10,7 +10,7 @@ use lil_check_type::{add_type, sort};
 use lil_check_value::type_named;
 use lil_language::{Decl, Sort, TypeName, Variables};
 use lil_report::Report;
-use lil_scope::{Env, Thing, Wait, Withs, bind};
+use lil_scope::{Coming, Env, Thing, Wait, Withs, bind};
 use lil_text::{Ident, Qualident};
 use lil_types::{TypeForm, TypeId};
 use std::alloc::Global;
@@ -133,7 +133,49 @@ fn take_waits(alloc: Global, env: &mut Env) -> Items<Wait>
     ensures waits { result ≡ env.old.waits }
     ensures rest { env.new ≡ spec.settled env.old }
 {
+    env.coming = Coming::new(alloc);
     std::mem::replace(&mut env.waits, Items::new(alloc))
+}
+
+/// The names of types more.
+fn add_types(alloc: Global, coming: &mut Coming, of: &[TypeName]) -> Result<(), Memory>
+    ensures { IfOk result (λ o. coming.new ≡ spec.with_types_of coming.old of.now) }
+{
+    for one in of {
+        coming.add(alloc, &one.name.name)?;
+    }
+    Ok(())
+}
+
+/// The names of the types that a declaration declares.
+#[tactic(auto, using(crate::proofs::Forms::decl_steps, crate::proofs::Forms::no_types_of))]
+fn add_types_of(alloc: Global, coming: &mut Coming, of: &Decl) -> Result<(), Memory>
+    ensures { IfOk result (λ o. coming.new ≡ spec.with_types_of coming.old (spec.decl_sense of.now).types) }
+{
+    match of {
+        Decl::ConstIs(_, _) => Ok(()),
+        Decl::TypeIs(_, xs) => add_types(alloc, coming, xs.as_slice()),
+        Decl::VarsAre(_, _) => Ok(()),
+        Decl::ProcIs(_, _) => Ok(()),
+    }
+}
+
+fn coming_of(alloc: Global, of: &[Decl]) -> Result<Coming, Memory>
+    ensures { IfOk result (λ c. c ≡ spec.with_types_in [] (map spec.decl_sense of.now)) }
+{
+    let mut coming = Coming::new(alloc);
+    for one in of {
+        add_types_of(alloc, &mut coming, one)?;
+    }
+    Ok(coming)
+}
+
+/// The names of the types of a block are known before its declarations.
+fn expect(alloc: Global, env: &mut Env, of: &[Decl]) -> Result<(), Memory>
+    ensures { IfOk result (λ o. env.new ≡ spec.expecting env.old (map spec.decl_sense of.now)) }
+{
+    env.coming = coming_of(alloc, of)?;
+    Ok(())
 }
 
 /// What stands around a block.
@@ -142,6 +184,7 @@ pub struct Around {
     outer: Items<usize>,
     inner: usize,
     waits: Items<Wait>,
+    coming: Coming,
     withs: Withs,
     procedure: Option<usize>,
 }
@@ -156,6 +199,7 @@ fn enter(alloc: Global, env: &mut Env, block: usize, procedure: usize) -> Result
     env.scopes.outer.push(inner)?;
     env.scopes.inner = block;
     let waits = std::mem::replace(&mut env.waits, Items::new(alloc));
+    let coming = std::mem::replace(&mut env.coming, Coming::new(alloc));
     let withs = std::mem::replace(&mut env.withs, Withs::new(alloc));
     let around = env.procedure;
     env.procedure = Some(procedure);
@@ -163,6 +207,7 @@ fn enter(alloc: Global, env: &mut Env, block: usize, procedure: usize) -> Result
         outer,
         inner,
         waits,
+        coming,
         withs,
         procedure: around,
     })
@@ -175,6 +220,7 @@ fn leave(env: &mut Env, around: Around)
     env.scopes.outer = around.outer;
     env.scopes.inner = around.inner;
     env.waits = around.waits;
+    env.coming = around.coming;
     env.withs = around.withs;
     env.procedure = around.procedure;
 }
@@ -226,6 +272,7 @@ pub fn declarations(
 ) -> Result<(), Memory>
     ensures { IfOk result (λ o. Said (spec.decls_mean env.old of.now) report.old env.new report.new) }
 {
+    expect(alloc, env, of.as_slice())?;
     each_decl(alloc, env, report, of.as_slice())?;
     let waits = take_waits(alloc, env);
     settle_all(alloc, env, report, waits.as_slice())

@@ -7,12 +7,12 @@ use Rattle.lil_scope.specs.{Names.{bind, bind_at, entry}, declared.{env.Env.Env,
 use Rattle.lil_scope.specs.declared.thing.Kind.TheVariants as k
 use Rattle.lil_kinds.specs.{Kinds.is_constant, declared.found.{Form.Form, Found.Found}}
 use Rattle.lil_kinds.specs.declared.found.Form.TheVariants as form
-use Rattle.lil_check_value.specs.Values.{means}
+use Rattle.lil_check_value.specs.Values.{asked_means}
 use Rattle.lil_check_decl.specs.Constants.{Meant, with_text, if_constant, constant_node, constant_step}
 use Rattle.lil_shapes.specs.ShapeSound.{earlier}
 use Rattle.lil_forms.specs.Properties.{nothing}
 use Rattle.lil_right_type.specs.{Right.{Right, IsThere, after_right, is_so}, Found.{KindTold, GoesWith, IsKnown}}
-use Rattle.lil_right_value.specs.Values.{means_right}
+use Rattle.lil_right_value.specs.Values.{asked_right}
 use Rattle.lil_right_sort.specs.{Growth.{Few, Grown, last_there, IsThing, Declared, bound_declared, more_declared}, Simple.Follows}
 
 -- what is declared behind e, where no test finds a fault
@@ -62,6 +62,6 @@ node_meant e f b (Some a) there clear =
     )
 
 pub constant_behind : (e f : Env) (c : Constant) → Behind e f → Right (Behind e) (constant_step f c)
-constant_behind e f c b = after_right (λ o. Few f.types → IsThere (IsKnown f) o) (Behind e) (means f c.value) (λ o. after (constant_node f o) (λ m. bind m.0 c.name m.1))
-    (λ clear few. means_right f (nothing f.types f.variables f.withs) (b.1 few).told c.value clear)
+constant_behind e f c b = after_right (λ o. Few f.types → IsThere (IsKnown f) o) (Behind e) (asked_means f c.value) (λ o. after (constant_node f o) (λ m. bind m.0 c.name m.1))
+    (λ clear few. asked_right f (nothing f.types f.variables f.withs) (b.1 few).told c.value clear)
     (λ o there. after_right (ConstantMeant e) (Behind e) (constant_node f o) (λ m. bind m.0 c.name m.1) (node_meant e f b o there) (λ m meant. bind_behind e m.0 c.name m.1 meant))

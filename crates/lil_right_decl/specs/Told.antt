@@ -1,5 +1,5 @@
 -- What a text imports and declares without a fault is told.
-use Rattle.std.proofs.Common.{◌≡◌, ℕ, List, [], ◌∷◌, ◌++◌, Option, Some, None, refl, sym, subst, true≢false}
+use Rattle.std.proofs.Common.{◌≡◌, ℕ, List, [], ◌∷◌, ◌++◌, map, Option, Some, None, refl, sym, subst, ◌∙◌, true≢false}
 use Rattle.lil_text.specs.declared.tree.Ident.{Ident}
 use Rattle.lil_language.specs.declared.unit.{Import.Import, Block.Block, Decl.{Decl, out-Decl, TheFolds.{map-Decl, fold-Block, fold_out-Decl}, TheOpen.Decl-F}, Heading.Heading, Sort.Sort, TypeName.TypeName, Variables.Variables}
 use Rattle.lil_language.specs.declared.unit.Decl.TheOpen as d
@@ -10,7 +10,7 @@ use Rattle.lil_shapes.specs.ShapeSound.{earlier}
 use Rattle.lil_forms.specs.Scopes.{fine_more}
 use Rattle.lil_check_value.specs.Looks.{not_built, type_named}
 use Rattle.lil_check_type.specs.{Made.Made, Sorts.sort_means}
-use Rattle.lil_check_decl.specs.{Constants.constant_step, Decls.{type_thing, form_means, type_step, variables_step, bare, pointing, wait_step, settled, decl_layer, block_layer, decl_means, decl_step, decls_mean}, Headings.{variable_thing, with_variable, variable_step, here, heading_means}, declared.home.Home.Home}
+use Rattle.lil_check_decl.specs.{Constants.constant_step, Decls.{type_thing, form_means, type_step, variables_step, bare, pointing, wait_step, settled, Means, Sense, expecting, decl_layer, block_layer, decl_sense, decl_step, decls_mean}, Headings.{variable_thing, with_variable, variable_step, here, heading_means}, declared.home.Home.Home}
 use Rattle.lil_interfaces.specs.{Interfaces.residents, Imports.{imports_mean, nothing_imported, export_step, exports_mean}, declared.importing.{Imported.Imported, Taken.Taken}}
 use Rattle.lil_right_type.specs.Right.{Right, after_right}
 use Rattle.lil_right_sort.specs.{Growth.{Few, grown_same, last_there, IsThing, Declared, declared_waits, bound_declared, more_declared}, Simple.{Begun, Follows, SortTold, sort_later, walk_keeps, named_right}, Sorts.sort_right}
@@ -56,15 +56,12 @@ wait_told e w h = after_right (λ o. Few e.types → Lies e.types o) Begun (type
     by None there clear few = absurd (there few)
     by (Some n) there clear few = let before : Few e.types = few_aimed e.types w.pointer n few in aimed_declared e (h before) w.pointer n (there before)
 
-abbrev Means : Type 0
-Means = Env → Env × List Row
-
 block_means : Block → Means
-block_means = fold-Block Means Means decl_layer block_layer
+block_means = fold-Block Sense Means decl_layer block_layer
 
-decl_is : (x : Decl) → decl_means x ≡ decl_layer (map-Decl Decl Block Means Means decl_means block_means (out-Decl x))
-unfolding decl_means block_means
-decl_is x = fold_out-Decl Means Means decl_layer block_layer x
+decl_is : (x : Decl) → decl_sense x ≡ decl_layer (map-Decl Decl Block Sense Means decl_sense block_means (out-Decl x))
+unfolding decl_sense block_means
+decl_is x = fold_out-Decl Sense Means decl_layer block_layer x
 
 -- ---- types
 type_meant : (e : Env) (m : Made) → SortTold e m → IsMeant e m.0 (type_thing m.1)
@@ -96,9 +93,9 @@ variables_behind e f x b = after_right (SortTold e) (Behind e) (sort_means f x.s
 
 -- ---- declarations
 decl_behind : (e f : Env) (x : Decl) → Behind e f → Right (Behind e) (decl_step f x)
-decl_behind e f x b = subst (λ (m : Means). Right (Behind e) (m f)) (sym (decl_is x)) (by (out-Decl x))
+decl_behind e f x b = subst (λ (s : Sense). Right (Behind e) (s.means f)) (sym (decl_is x)) (by (out-Decl x))
   where
-    by : (y : Decl-F Decl Block) → Right (Behind e) (decl_layer (map-Decl Decl Block Means Means decl_means block_means y) f)
+    by : (y : Decl-F Decl Block) → Right (Behind e) ((decl_layer (map-Decl Decl Block Sense Means decl_sense block_means y)).means f)
     by (d.ConstIs p xs) = walk_keeps (Behind e) constant_step (λ g c. constant_behind e g c) f xs b
     by (d.TypeIs p xs) = walk_keeps (Behind e) type_step (λ g x. type_behind e g x) f xs b
     by (d.VarsAre p xs) = walk_keeps (Behind e) variables_step (λ g x. variables_behind e g x) f xs b
@@ -107,9 +104,27 @@ decl_behind e f x b = subst (λ (m : Means). Right (Behind e) (m f)) (sym (decl_
 
 decls_told : (e : Env) (ds : List Decl) → Begun e → Right Begun (decls_mean e ds)
 unfolding decls_mean
-decls_told e ds h = after_right (Behind e) Begun (walk decl_step e ds) (λ f. walk wait_step (settled f) f.waits)
-    (walk_keeps (Behind e) decl_step (λ f x. decl_behind e f x) e ds (grown_same e.types, h))
-    (λ f b. walk_keeps Begun wait_step wait_told (settled f) f.waits (λ few. declared_waits f (b.1 few) []))
+decls_told e ds h = after_right (Behind e) Begun (walk decl_step (expecting e (map decl_sense ds)) ds) (λ f. walk wait_step (settled f) f.waits)
+    (walk_keeps (Behind e) decl_step (λ f x. decl_behind e f x) (expecting e (map decl_sense ds)) ds (grown_same e.types, λ few. declared_waits e (h few) e.waits (expecting e (map decl_sense ds)).coming))
+    (λ f b. walk_keeps Begun wait_step wait_told (settled f) f.waits (λ few. declared_waits f (b.1 few) [] []))
+
+-- behind them no pointer waits
+wait_settled : (e : Env) (w : Wait) → (wait_step e w).0.waits ≡ e.waits
+unfolding after
+wait_settled e w = by (type_named e (bare w)).0
+  where
+    by : (o : Option ℕ) → (pointing e w.pointer o).waits ≡ e.waits
+    by None = refl
+    by (Some n) = refl
+
+waits_settled : (e : Env) (ws : List Wait) → (walk wait_step e ws).0.waits ≡ e.waits
+unfolding after
+waits_settled e [] = refl
+waits_settled e (w ∷ ws) = waits_settled (wait_step e w).0 ws ∙ wait_settled e w
+
+decls_settled : (e : Env) (ds : List Decl) → (decls_mean e ds).0.waits ≡ []
+unfolding decls_mean after
+decls_settled e ds = let f = (walk decl_step (expecting e (map decl_sense ds)) ds).0 in waits_settled (settled f) f.waits
 
 -- ---- a text
 exports_told : (ts : List Taken) (e : Env) (xs : Option (List Ident)) → Begun e → Right Begun (exports_mean ts e xs)
@@ -117,8 +132,23 @@ unfolding export_step
 exports_told ts e None h = λ clear. h
 exports_told ts e (Some xs) h = walk_keeps Begun (export_step ts) (λ f x j clear. j) e xs h
 
+exports_settled : (ts : List Taken) (e : Env) (xs : Option (List Ident)) → e.waits ≡ [] → (exports_mean ts e xs).0.waits ≡ []
+unfolding export_step after
+exports_settled ts e None h = h
+exports_settled ts e (Some xs) h = each e xs h
+  where
+    each : (f : Env) (is : List Ident) → f.waits ≡ [] → (walk (export_step ts) f is).0.waits ≡ []
+    each f [] j = j
+    each f (i ∷ is) j = each f is j
+
 pub declared_told : (xs : List Import) (ds : List Decl) (exports : Option (List Ident))
     → Right (λ (e : Env). Few e.types → Declared e) (after (imports_mean residents nothing_imported xs) (λ s. after (decls_mean s.env ds) (λ e. exports_mean s.taken e exports)))
 declared_told xs ds exports = after_right (λ (s : Imported). Begun s.env) Begun (imports_mean residents nothing_imported xs) (λ s. after (decls_mean s.env ds) (λ e. exports_mean s.taken e exports))
     (imports_told xs)
     (λ s h. after_right Begun Begun (decls_mean s.env ds) (λ e. exports_mean s.taken e exports) (decls_told s.env ds h) (λ e j. exports_told s.taken e exports j))
+
+pub declared_settled : (xs : List Import) (ds : List Decl) (exports : Option (List Ident)) → (after (imports_mean residents nothing_imported xs) (λ s. after (decls_mean s.env ds) (λ e. exports_mean s.taken e exports))).0.waits ≡ []
+unfolding after
+declared_settled xs ds exports =
+    let s = (imports_mean residents nothing_imported xs).0 in
+    exports_settled s.taken (decls_mean s.env ds).0 exports (decls_settled s.env ds)
