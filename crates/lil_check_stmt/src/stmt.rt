@@ -8,7 +8,7 @@ use lil_base::{Items, Memory};
 use lil_language::{Decl, Stmt};
 use lil_report::Report;
 use lil_resolved::RStmt;
-use lil_scope::{Env, Routine, Thing, Wait, Withs};
+use lil_scope::{Coming, Env, Routine, Thing, Wait, Withs};
 use std::alloc::Global;
 
 /// The statements of all procedures that a block declares, and its own, each where they have code.
@@ -33,6 +33,7 @@ struct Around {
     outer: Items<usize>,
     inner: usize,
     waits: Items<Wait>,
+    coming: Coming,
     withs: Withs,
     procedure: Option<usize>,
 }
@@ -47,6 +48,7 @@ fn enter(alloc: Global, env: &mut Env, routine: Routine) -> Result<Around, Memor
     env.scopes.outer.push(inner)?;
     env.scopes.inner = routine.block;
     let waits = std::mem::replace(&mut env.waits, Items::new(alloc));
+    let coming = std::mem::replace(&mut env.coming, Coming::new(alloc));
     let withs = std::mem::replace(&mut env.withs, Withs::new(alloc));
     let procedure = env.procedure;
     env.procedure = Some(routine.number);
@@ -54,6 +56,7 @@ fn enter(alloc: Global, env: &mut Env, routine: Routine) -> Result<Around, Memor
         outer,
         inner,
         waits,
+        coming,
         withs,
         procedure,
     })
@@ -66,6 +69,7 @@ fn leave(env: &mut Env, around: Around)
     env.scopes.outer = around.outer;
     env.scopes.inner = around.inner;
     env.waits = around.waits;
+    env.coming = around.coming;
     env.withs = around.withs;
     env.procedure = around.procedure;
 }

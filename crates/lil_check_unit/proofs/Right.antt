@@ -19,7 +19,7 @@ use Rattle.lil_right_type.specs.{Right.{Clear, clear_left, clear_right, IsThere}
 use Rattle.lil_right_stmt.specs.Statements.{statements_right}
 use Rattle.lil_right_data.specs.{Room.{IsLying, variables_there, room}, Shapes.shapes_there}
 use Rattle.lil_right_sort.specs.Growth.{Few, Declared}
-use Rattle.lil_right_decl.specs.Told.{declared_told}
+use Rattle.lil_right_decl.specs.Told.{declared_told, declared_settled}
 use Rattle.lil_check_unit.specs.{Modules.{in_no_with, module_words, module_with, with_variables, laid_out, assembled}, Units.{first_of, declared, stated, is_long, long_rows, names_fault, worst, late_fault, data_rows, data_fault, unit_fault, imports_fault, program_fault, naming_rows, missing_rows, module_of}}
 use Rattle.lil_check_unit.specs.UnitLaws.{none_before, none_behind, no_declared, no_stated}
 use Rattle.lil_check_unit.specs.Units as units
@@ -159,7 +159,7 @@ module _ (u : Tree) where
 
       body_there : IsThere (AllSound scope false) (statements_mean (in_no_with now) false u.body).0
       body_there = statements_right (in_no_with now) scope (outside now.types now.variables lies.0 lies.1 lies.2 lies.3) (record { types = is_declared.told.types; words = is_declared.told.words; names = is_declared.told.names })
-          is_declared.procedure false u.body (body_clear (in_no_with now) u.decls u.body stated_clear)
+          (declared_settled u.head.imports u.decls u.head.exports) is_declared.procedure false u.body (body_clear (in_no_with now) u.decls u.body stated_clear)
 
       by : (o : Option (List RStmt)) → IsThere (AllSound scope false) o → data_words now.types now.variables (stated residents u).0.procedures o ≤ 32000 → Meant (assembled now.types now.variables u.head.name.name o)
       by None h few = absurd h

@@ -67,10 +67,10 @@ AreArms ts looping g out = IsThere (AllFine (IsArm ts looping g)) out.arms
 
 -- ---- what is right in all surroundings: a statement, or a guard, and an arm behind right ones
 abbrev IsRight : {A : Type 0} → (Scope → Bool → A → Type 0) → (Env → Bool → Option A × List Row) → Type 0
-IsRight S m = (e : Env) (ts : Scope) → Fits e.types e.variables e.withs ts → EnvTold e → e.procedure ≡ None → (looping : Bool) → Right (IsThere (S ts looping)) (m e looping)
+IsRight S m = (e : Env) (ts : Scope) → Fits e.types e.variables e.withs ts → EnvTold e → e.waits ≡ [] → e.procedure ≡ None → (looping : Bool) → Right (IsThere (S ts looping)) (m e looping)
 
 abbrev IsRightArm : ArmMeaning → Type 0
-IsRightArm m = (e : Env) (ts : Scope) → Fits e.types e.variables e.withs ts → EnvTold e → e.procedure ≡ None → (looping : Bool) (kind : Kind) (s : Selects e.types kind) (out : TypeOf no_arms) → AreArms ts looping s.over out → Right (AreArms ts looping s.over) (m e looping (Some kind) out)
+IsRightArm m = (e : Env) (ts : Scope) → Fits e.types e.variables e.withs ts → EnvTold e → e.waits ≡ [] → e.procedure ≡ None → (looping : Bool) (kind : Kind) (s : Selects e.types kind) (out : TypeOf no_arms) → AreArms ts looping s.over out → Right (AreArms ts looping s.over) (m e looping (Some kind) out)
 
 -- ---- trees, each with its proof
 abbrev Tree : Type 0
@@ -99,10 +99,10 @@ arms_of xs = meanings arm_means IsRightArm xs
 abbrev guards_of : List GuardTree → List GuardMeaning
 guards_of xs = meanings guard_means (IsRight GuardSound) xs
 
-module _ (e : Env) (ts : Scope) (fits : Fits e.types e.variables e.withs ts) (told : EnvTold e) where
+module _ (e : Env) (ts : Scope) (fits : Fits e.types e.variables e.withs ts) (told : EnvTold e) (settled : e.waits ≡ []) where
   -- a value, and what stands behind it
   behind_found : {B : Type 0} (Q : B → Type 0) (x : Expr) (k : Option Found → B × List Row) → ((a : Found) → IsFound (soundness fits) a → Right Q (k (Some a))) → Right Q (after (means e x) k)
-  behind_found Q x k = behind_right (IsFound (soundness fits)) Q (means e x) k (means_right e (soundness fits) told x)
+  behind_found Q x k = behind_right (IsFound (soundness fits)) Q (means e x) k (means_right e (soundness fits) told settled x)
 
   condition_there : (x : Expr) → Right (IsThere (IsCondition fits told.types)) (condition_means e x)
   condition_there x = behind_found (IsThere (IsCondition fits told.types)) x (condition_node e.types) (condition_right fits told.types)
@@ -135,13 +135,13 @@ module _ (e : Env) (ts : Scope) (fits : Fits e.types e.variables e.withs ts) (to
         _ rs tt (all_of IsAny rs (λ r. tt))
 
 -- ---- each form
-module _ (e : Env) (ts : Scope) (fits : Fits e.types e.variables e.withs ts) (told : EnvTold e) (none : e.procedure ≡ None) (looping : Bool) where
+module _ (e : Env) (ts : Scope) (fits : Fits e.types e.variables e.withs ts) (told : EnvTold e) (settled : e.waits ≡ []) (none : e.procedure ≡ None) (looping : Bool) where
   abbrev There : Option RStmt → Type 0
   There = IsThere (StatementSound ts looping)
 
   -- statements behind others
   behind_body : {B : Type 0} (Q : B → Type 0) (xs : List Tree) (k : Option (List RStmt) → B × List Row) → ((ss : List RStmt) → AllSound ts looping ss → Right Q (k (Some ss))) → Right Q (after (list_means e looping (means_of xs)) k)
-  behind_body Q xs k = behind_right (AllSound ts looping) Q (list_means e looping (means_of xs)) k (list_right (StatementSound ts looping) (IsRight StatementSound) (λ m. m e looping) (λ m h. h e ts fits told none looping) (means_of xs) (each statement_means (IsRight StatementSound) xs))
+  behind_body Q xs k = behind_right (AllSound ts looping) Q (list_means e looping (means_of xs)) k (list_right (StatementSound ts looping) (IsRight StatementSound) (λ m. m e looping) (λ m h. h e ts fits told settled none looping) (means_of xs) (each statement_means (IsRight StatementSound) xs))
 
   else_there : (xs : List Tree) → Right (IsThere (OtherSound ts looping)) (else_means e looping (Some (means_of xs)))
   else_there xs = behind_body (IsThere (OtherSound ts looping)) xs _ (λ ss all clear. all)
@@ -149,14 +149,14 @@ module _ (e : Env) (ts : Scope) (fits : Fits e.types e.variables e.withs ts) (to
   if_there : (gs : List GuardTree) (other : Option (List Meaning)) → Right (IsThere (OtherSound ts looping)) (else_means e looping other)
       → Right There (after (guards_mean e looping (guards_of gs)) (λ gs. after (else_means e looping other) (λ ss. pure (conditional gs ss))))
   if_there gs other h =
-      behind_right (AllFine (GuardSound ts looping)) There _ _ (list_right (GuardSound ts looping) (IsRight GuardSound) (λ m. m e looping) (λ m h. h e ts fits told none looping) (guards_of gs) (each guard_means (IsRight GuardSound) gs))
+      behind_right (AllFine (GuardSound ts looping)) There _ _ (list_right (GuardSound ts looping) (IsRight GuardSound) (λ m. m e looping) (λ m h. h e ts fits told settled none looping) (guards_of gs) (each guard_means (IsRight GuardSound) gs))
       (λ gs all. behind_right (OtherSound ts looping) There _ _ h (λ ss some clear. conditional_right ts looping gs ss all some))
 
   case_there : (x : Expr) (xs : List ArmTree) (other : Option (List Meaning)) → Right (IsThere (OtherSound ts looping)) (else_means e looping other)
       → Right There (after (selector_means e x) (λ v. after (arms_mean e looping (kind_of v) (arms_of xs)) (λ out. after (else_means e looping other) (λ ss. pure (selected e.types v out.arms ss)))))
   case_there x xs other h =
-      behind_right Selected There _ _ (behind_found e ts fits told (IsThere Selected) x _ (selector_right fits told.types)) (λ a i.
-      after_right (AreArms ts looping i.1.over) There _ _ (walk_right (AreArms ts looping i.1.over) IsRightArm (arms_step e looping (Some a.kind)) (λ out m h j. j e ts fits told none looping a.kind i.1 out h) no_arms (arms_of xs) tt (each arm_means IsRightArm xs)) (λ out arms.
+      behind_right Selected There _ _ (behind_found e ts fits told settled (IsThere Selected) x _ (selector_right fits told.types)) (λ a i.
+      after_right (AreArms ts looping i.1.over) There _ _ (walk_right (AreArms ts looping i.1.over) IsRightArm (arms_step e looping (Some a.kind)) (λ out m h j. j e ts fits told settled none looping a.kind i.1 out h) no_arms (arms_of xs) tt (each arm_means IsRightArm xs)) (λ out arms.
       behind_right (OtherSound ts looping) There _ _ h (λ ss some clear. by a i.0 i.1 out.arms arms ss some)))
     where
       Selected : Found → Type 0
@@ -168,55 +168,55 @@ module _ (e : Env) (ts : Scope) (fits : Fits e.types e.variables e.withs ts) (to
 
   return_there : (p : Place) (o : Option Expr) → Right There (return_means e p o)
   return_there p None = end_right ts looping p (result_at e)
-  return_there p (Some x) = behind_found e ts fits told There x _ (λ v h. subst (λ o. Right There (return_node e.types p (result_by e o) (Some v))) (sym none) (return_right e.types There p v))
+  return_there p (Some x) = behind_found e ts fits told settled There x _ (λ v h. subst (λ o. Right There (return_node e.types p (result_by e o) (Some v))) (sym none) (return_right e.types There p v))
 
 -- statements inside of a WITH
-with_there : (e : Env) (ts : Scope) (fits : Fits e.types e.variables e.withs ts) (told : EnvTold e) → e.procedure ≡ None → (looping : Bool) (r : Taken within) (xs : List Tree) → IsOpened fits told.types r
+with_there : (e : Env) (ts : Scope) (fits : Fits e.types e.variables e.withs ts) (told : EnvTold e) → e.waits ≡ [] → e.procedure ≡ None → (looping : Bool) (r : Taken within) (xs : List Tree) → IsOpened fits told.types r
     → Right (IsThere (StatementSound ts looping)) (after (list_means (within (Some r) e) looping (means_of xs)) (λ ss. pure (with_record (Some r) ss)))
-with_there e ts fits told none looping r xs h = by r.place h
+with_there e ts fits told settled none looping r xs h = by r.place h
   where
     by : (o : Option Located) → IsThere (Opens fits told.types r.sort) o → Right (IsThere (StatementSound ts looping)) (after (list_means (within (Some r) e) looping (means_of xs)) (λ ss. pure (statements.inside o ss)))
     by None h = absurd h
     by (Some p) h =
         let held = with_held ts (shape_of ts (place_of p.place)) in
-        behind_body (within (Some r) e) held (subst (λ s. Fits e.types e.variables (e.withs ++ s ∷ []) held) h.1 (deeper fits p h.0 h.2.there)) (record { types = told.types; words = told.words; names = told.names }) none looping
+        behind_body (within (Some r) e) held (subst (λ s. Fits e.types e.variables (e.withs ++ s ∷ []) held) h.1 (deeper fits p h.0 h.2.there)) (record { types = told.types; words = told.words; names = told.names }) settled none looping
         (IsThere (StatementSound ts looping)) xs _ (λ ss all clear. made_sound ts looping _ _ (inside_is p.place ss) (h.2, body_sound held looping ss all))
 
 layer_right : (y : Stmt-F Tree ArmTree GuardTree) → IsRight StatementSound (statement_layer (meant (bare y)))
-layer_right (s.Assign d p x) e ts fits told none looping =
-    behind_right (λ a. IsFound (soundness fits) a × IsLocated a.form) (IsThere (StatementSound ts looping)) _ _ (variable_means_right e (soundness fits) told d) (λ a h.
-    behind_found e ts fits told (IsThere (StatementSound ts looping)) x _ (λ v j. assign_right fits told.types looping p a v h.0 h.1 j))
-layer_right (s.Call d xs) e ts fits told none looping = call_means_right e fits told looping d xs
-layer_right (s.If p gs None) e ts fits told none looping = if_there e ts fits told none looping gs None (λ clear. tt)
-layer_right (s.If p gs (Some xs)) e ts fits told none looping = if_there e ts fits told none looping gs (Some (means_of xs)) (else_there e ts fits told none looping xs)
-layer_right (s.Case p x as' None) e ts fits told none looping = case_there e ts fits told none looping x as' None (λ clear. tt)
-layer_right (s.Case p x as' (Some xs)) e ts fits told none looping = case_there e ts fits told none looping x as' (Some (means_of xs)) (else_there e ts fits told none looping xs)
-layer_right (s.While p x xs) e ts fits told none looping =
-    behind_right (IsCondition fits told.types) (IsThere (StatementSound ts looping)) _ _ (condition_there e ts fits told x) (λ c h. behind_body e ts fits told none looping (IsThere (StatementSound ts looping)) xs _ (λ ss all clear. made_sound ts looping _ _ (while_is c ss) (h, body_sound ts looping ss all)))
-layer_right (s.Repeat p xs x) e ts fits told none looping =
-    behind_body e ts fits told none looping (IsThere (StatementSound ts looping)) xs _ (λ ss all. behind_right (IsCondition fits told.types) (IsThere (StatementSound ts looping)) _ _ (condition_there e ts fits told x) (λ c h clear. made_sound ts looping _ _ (repeat_is ss c) (body_sound ts looping ss all, h)))
-layer_right (s.Loop p xs) e ts fits told none looping = behind_body e ts fits told none true (IsThere (StatementSound ts looping)) xs _ (λ ss all clear. made_sound ts looping _ _ (loop_is ss) (body_sound ts true ss all))
-layer_right (s.For p h xs) e ts fits told none looping =
-    behind_right (IsCount e fits told) (IsThere (StatementSound ts looping)) _ _ (count_there e ts fits told h) (λ c count. behind_body e ts fits told none looping (IsThere (StatementSound ts looping)) xs _ (λ ss all clear. counted_right e fits told looping c ss count all))
-layer_right (s.With p d xs) e ts fits told none looping =
-    behind_right (λ a. IsFound (soundness fits) a × IsLocated a.form) (IsThere (StatementSound ts looping)) _ _ (variable_means_right e (soundness fits) told d) (λ a h.
-    behind_right (IsOpened fits told.types) (IsThere (StatementSound ts looping)) _ _ (record_right fits told.types p a h.0 h.1) (λ r opened. with_there e ts fits told none looping r xs opened))
-layer_right (s.Exit p) e ts fits told none looping = exit_right ts p looping
-layer_right (s.Return p None) e ts fits told none looping = return_there e ts fits told none looping p None
-layer_right (s.Return p (Some x)) e ts fits told none looping = return_there e ts fits told none looping p (Some x)
+layer_right (s.Assign d p x) e ts fits told settled none looping =
+    behind_right (λ a. IsFound (soundness fits) a × IsLocated a.form) (IsThere (StatementSound ts looping)) _ _ (variable_means_right e (soundness fits) told settled d) (λ a h.
+    behind_found e ts fits told settled (IsThere (StatementSound ts looping)) x _ (λ v j. assign_right fits told.types looping p a v h.0 h.1 j))
+layer_right (s.Call d xs) e ts fits told settled none looping = call_means_right e fits told settled looping d xs
+layer_right (s.If p gs None) e ts fits told settled none looping = if_there e ts fits told settled none looping gs None (λ clear. tt)
+layer_right (s.If p gs (Some xs)) e ts fits told settled none looping = if_there e ts fits told settled none looping gs (Some (means_of xs)) (else_there e ts fits told settled none looping xs)
+layer_right (s.Case p x as' None) e ts fits told settled none looping = case_there e ts fits told settled none looping x as' None (λ clear. tt)
+layer_right (s.Case p x as' (Some xs)) e ts fits told settled none looping = case_there e ts fits told settled none looping x as' (Some (means_of xs)) (else_there e ts fits told settled none looping xs)
+layer_right (s.While p x xs) e ts fits told settled none looping =
+    behind_right (IsCondition fits told.types) (IsThere (StatementSound ts looping)) _ _ (condition_there e ts fits told settled x) (λ c h. behind_body e ts fits told settled none looping (IsThere (StatementSound ts looping)) xs _ (λ ss all clear. made_sound ts looping _ _ (while_is c ss) (h, body_sound ts looping ss all)))
+layer_right (s.Repeat p xs x) e ts fits told settled none looping =
+    behind_body e ts fits told settled none looping (IsThere (StatementSound ts looping)) xs _ (λ ss all. behind_right (IsCondition fits told.types) (IsThere (StatementSound ts looping)) _ _ (condition_there e ts fits told settled x) (λ c h clear. made_sound ts looping _ _ (repeat_is ss c) (body_sound ts looping ss all, h)))
+layer_right (s.Loop p xs) e ts fits told settled none looping = behind_body e ts fits told settled none true (IsThere (StatementSound ts looping)) xs _ (λ ss all clear. made_sound ts looping _ _ (loop_is ss) (body_sound ts true ss all))
+layer_right (s.For p h xs) e ts fits told settled none looping =
+    behind_right (IsCount e fits told) (IsThere (StatementSound ts looping)) _ _ (count_there e ts fits told settled h) (λ c count. behind_body e ts fits told settled none looping (IsThere (StatementSound ts looping)) xs _ (λ ss all clear. counted_right e fits told looping c ss count all))
+layer_right (s.With p d xs) e ts fits told settled none looping =
+    behind_right (λ a. IsFound (soundness fits) a × IsLocated a.form) (IsThere (StatementSound ts looping)) _ _ (variable_means_right e (soundness fits) told settled d) (λ a h.
+    behind_right (IsOpened fits told.types) (IsThere (StatementSound ts looping)) _ _ (record_right fits told.types p a h.0 h.1) (λ r opened. with_there e ts fits told settled none looping r xs opened))
+layer_right (s.Exit p) e ts fits told settled none looping = exit_right ts p looping
+layer_right (s.Return p None) e ts fits told settled none looping = return_there e ts fits told settled none looping p None
+layer_right (s.Return p (Some x)) e ts fits told settled none looping = return_there e ts fits told settled none looping p (Some x)
 
 arm_layer_right : (y : Arm-F Tree ArmTree GuardTree) → IsRightArm (arm_layer (arm_meant (bare_arm y)))
-arm_layer_right y e ts fits told none looping kind s out h =
-    after_right (AreLabels s.over) (AreArms ts looping s.over) _ _ (labels_there e ts fits told kind s out.seen y.labels) (λ ls labels.
-    behind_body e ts fits told none looping (AreArms ts looping s.over) y.body _ (λ ss all clear. joined_right (IsArm ts looping s.over) out.arms _ h (armed ls.own ss labels all)))
+arm_layer_right y e ts fits told settled none looping kind s out h =
+    after_right (AreLabels s.over) (AreArms ts looping s.over) _ _ (labels_there e ts fits told settled kind s out.seen y.labels) (λ ls labels.
+    behind_body e ts fits told settled none looping (AreArms ts looping s.over) y.body _ (λ ss all clear. joined_right (IsArm ts looping s.over) out.arms _ h (armed ls.own ss labels all)))
   where
     armed : (o : Option (List RLabel)) (ss : List RStmt) → IsThere (AllFine (IsLabel s.over)) o → AllSound ts looping ss → IsThere (IsArm ts looping s.over) (statements.armed o (Some ss))
     armed None ss labels all = labels
     armed (Some ls) ss labels all = (labels_sound ts looping s.over ls labels, all)
 
 guard_layer_right : (y : Guard-F Tree ArmTree GuardTree) → IsRight GuardSound (guard_layer (guard_meant (bare_guard y)))
-guard_layer_right y e ts fits told none looping =
-    behind_right (IsCondition fits told.types) (IsThere (GuardSound ts looping)) _ _ (condition_there e ts fits told y.condition) (λ c h. behind_body e ts fits told none looping (IsThere (GuardSound ts looping)) y.body _ (λ ss all clear. (h, all)))
+guard_layer_right y e ts fits told settled none looping =
+    behind_right (IsCondition fits told.types) (IsThere (GuardSound ts looping)) _ _ (condition_there e ts fits told settled y.condition) (λ c h. behind_body e ts fits told settled none looping (IsThere (GuardSound ts looping)) y.body _ (λ ss all clear. (h, all)))
 
 -- by induction
 statement_right : (x : Stmt) → IsRight StatementSound (statement_means x)
@@ -225,7 +225,7 @@ statement_right = by_forms
     (λ y. subst IsRightArm (sym (arm_rolled (bare_arm y))) (arm_layer_right y))
     (λ y. subst (IsRight GuardSound) (sym (guard_rolled (bare_guard y))) (guard_layer_right y))
 
-pub statements_right : (e : Env) (ts : Scope) → Fits e.types e.variables e.withs ts → EnvTold e → e.procedure ≡ None → (looping : Bool) (xs : List Stmt) → Right (IsThere (AllSound ts looping)) (statements_mean e looping xs)
+pub statements_right : (e : Env) (ts : Scope) → Fits e.types e.variables e.withs ts → EnvTold e → e.waits ≡ [] → e.procedure ≡ None → (looping : Bool) (xs : List Stmt) → Right (IsThere (AllSound ts looping)) (statements_mean e looping xs)
 unfolding statements_mean
-statements_right e ts fits told none looping xs =
-    list_right (StatementSound ts looping) (λ x. IsRight StatementSound (statement_means x)) (λ x. statement_means x e looping) (λ x h. h e ts fits told none looping) xs (all_of (λ x. IsRight StatementSound (statement_means x)) xs statement_right)
+statements_right e ts fits told settled none looping xs =
+    list_right (StatementSound ts looping) (λ x. IsRight StatementSound (statement_means x)) (λ x. statement_means x e looping) (λ x h. h e ts fits told settled none looping) xs (all_of (λ x. IsRight StatementSound (statement_means x)) xs statement_right)
