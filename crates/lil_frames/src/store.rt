@@ -1,8 +1,8 @@
-ghost use Rattle.std.specs.Prelude.{◌≡◌, ◌+◌, ◌-◌, ◌<◌, ◌≤◌, length, slice_get, slice_index, slice_set, Some, IfOk};
+ghost use Rattle.std.specs.Prelude.{◌≡◌, ◌+◌, ◌-◌, ◌<◌, ◌≤◌, length, take, drop, slice_get, slice_index, slice_set, Some, IfOk};
 ghost use Rattle.lil_frames.specs.{Words.{spliced, cleared, moved}, Blocks.{Apart, size_at}, Store.{empty, lowest, with_words, opened, closed, taken}};
 
 use crate::blocks::{Block, drop_level, lowest_of_blocks, put_block, size_of_block};
-use crate::words::{clear, copy_words, move_words, zero_words};
+use crate::words::{clear, copy_words, move_words, part, zero_words};
 use lil_base::Memory;
 use std::alloc::Global;
 use std::marker::Model;
@@ -62,6 +62,14 @@ impl MainStore {
         ensures there { slice_get self.now.words at ≡ Some result }
     {
         self.words[usize::from(at)]
+    }
+
+    /// So many words from an address on.
+    pub fn part(&self, from: u16, count: u16) -> &[u16]
+        requires { from + count ≤ 65536 }
+        ensures { result.now ≡ take count (drop from self.now.words) }
+    {
+        part(&self.words, usize::from(from), usize::from(count))
     }
 
     /// A word comes to an address.

@@ -1,6 +1,6 @@
 //! Several words of a store at once.
 
-ghost use Rattle.std.specs.Prelude.{◌≡◌, ◌+◌, ◌≤◌, length, IfOk};
+ghost use Rattle.std.specs.Prelude.{◌≡◌, ◌+◌, ◌≤◌, length, take, drop, IfOk};
 ghost use Rattle.lil_frames.specs.Words.{zeros, spliced, cleared, moved};
 
 use lil_base::Memory;
@@ -13,6 +13,15 @@ pub fn zero_words(alloc: Global, count: usize) -> Result<Vec<u16>, Memory>
 {
     let words = vec![in alloc; 0u16; count]?;
     Ok(words)
+}
+
+/// So many words from a place on.
+pub fn part(store: &[u16], from: usize, count: usize) -> &[u16]
+    requires { from + count ≤ length store.now }
+    ensures { result.now ≡ take count (drop from store.now) }
+{
+    let end = from + count;
+    &store[from..end]
 }
 
 /// Words come to a place.
