@@ -1,5 +1,6 @@
-//! All tests: of single crates by their public functions, and of whole commands, from the words to the screen, the
-//! report and the answer. A crate with tests of its own would be proved twice.
+//! Tests by calls: of single crates by their public functions, and of whole commands, from the words to the screen, the
+//! report and the answer, where the built program can't be made to do it. What it can do stands in tests/ at the top. A
+//! crate with tests of its own would be proved twice.
 #![tactic(auto)]
 
 #[cfg(test)]
