@@ -40,13 +40,17 @@ module _ (e : Env) (out : Bodies) {of : Decl} {r : Option Fault} where
   no_block h b is none = said_as (ap (decl_step e out) (is ∙ ap (d.ProcIs h) none) ∙ ap (λ (m : DeclMeaning). m e out) (ap decl_means (sym (d.rolls-ProcIs h None)) ∙ rolled (layer.ProcIs h None))) (said_value refl)
 
   module _ (h : Heading) (o : Option Block) (b : Block) (is : of ≡ d.ProcIs h o) (some : o ≡ Some b) where
-    pub is_body : {t : Option Thing} {n : Option Routine} (k : Routine) {g : Env} (ds : List Decl) (ss : List Stmt) {w : Stated} {bs : Bodies} {s : Option Fault} → t ≡ find e.scopes h.name.name → n ≡ routine_of t → n ≡ Some k
-        → g ≡ inside k.block (Some k.number) e → ds ≡ b.decls → ss ≡ b.body → Said (block_means g out ds ss) r w s → bs ≡ with_body w → Said (decl_step e out of) r bs s
-    is_body k ds ss {w = w} {s = s} found num known enters these those m value = said_as (body_is e out h o b is some (Some k) (sym known ∙ num ∙ ap routine_of found))
-        (said_to (said_map with_body (subst (λ z. Said z r w s) (λ j. block_means (enters j) out (these j) (those j)) m)) value)
+    pub is_body : {t : Option Thing} {n : Option Routine} (k : Routine) {bs : Bodies} {s : Option Fault} → t ≡ find e.scopes h.name.name → n ≡ routine_of t → n ≡ Some k
+        → Said (body_means (Some k) (λ e out. block_means e out b.decls b.body) e out) r bs s → Said (decl_step e out of) r bs s
+    is_body k found num known m = said_as (body_is e out h o b is some (Some k) (sym known ∙ num ∙ ap routine_of found)) m
 
     pub no_routine : {t : Option Thing} {n : Option Routine} → t ≡ find e.scopes h.name.name → n ≡ routine_of t → n ≡ None → Said (decl_step e out of) r out r
     no_routine found num none = said_as (body_is e out h o b is some None (sym none ∙ num ∙ ap routine_of found)) (said_value refl)
+
+-- a procedure whose heading was found
+pub is_inside : (e : Env) (out : Bodies) (b : Block) (k : Routine) {g : Env} (ds : List Decl) (ss : List Stmt) {w : Stated} {bs : Bodies} {r s : Option Fault}
+    → g ≡ inside k.block (Some k.number) e → ds ≡ b.decls → ss ≡ b.body → Said (block_means g out ds ss) r w s → bs ≡ with_body w → Said (body_means (Some k) (λ e out. block_means e out b.decls b.body) e out) r bs s
+is_inside e out b k ds ss {w = w} {r = r} {s = s} enters these those m value = said_to (said_map with_body (subst (λ z. Said z r w s) (λ j. block_means (enters j) out (these j) (those j)) m)) value
 
 -- one more, where nothing around has changed
 pub is_decl : {e f : Env} (out : Bodies) (of : Decl) {bs : Bodies} {r s : Option Fault} → f ≡ e → Said (decl_step f out of) r bs s → Said (decl_step e out of) r bs s

@@ -1,11 +1,11 @@
-ghost use Rattle.std.specs.Prelude.{◌≡◌, [], ◌∷◌, ◌++◌, IfOk};
+ghost use Rattle.std.specs.Prelude.{◌≡◌, [], ◌∷◌, ◌++◌, IfOk, Some};
 ghost use Rattle.lil_report.specs.Told.{Said, walk};
 ghost use Rattle.lil_scope.specs.Names.{inside};
 ghost use Rattle.lil_check_stmt.specs.Stmts as spec;
 
 use crate::statements::statements;
 use lil_base::{Items, Memory};
-use lil_language::{Decl, Stmt};
+use lil_language::{Block, Decl, Stmt};
 use lil_report::Report;
 use lil_resolved::RStmt;
 use lil_scope::{Coming, Env, Routine, Thing, Wait, Withs};
@@ -83,6 +83,33 @@ fn with_body(of: Stated) -> Result<Items<Option<Items<RStmt>>>, Memory>
     Ok(bodies)
 }
 
+/// The body of a procedure, behind those of the procedures in it.
+#[cycle(bodies)]
+fn procedure(
+    alloc: Global,
+    env: &mut Env,
+    report: &mut Report,
+    before: Items<Option<Items<RStmt>>>,
+    found: Routine,
+    inner: &Block,
+) -> Result<Items<Option<Items<RStmt>>>, Memory>
+    ensures said { IfOk result (λ bs. Said (spec.body_means (Some found) (λ e out. spec.block_means e out inner.now.decls inner.now.body) env.old before) report.old bs report.new) }
+    ensures same { IfOk result (λ bs. env.new ≡ env.old) }
+{
+    let around = enter(alloc, env, found)?;
+    let stated = block(
+        alloc,
+        env,
+        report,
+        before,
+        inner.decls.as_slice(),
+        inner.body.as_slice(),
+    )?;
+    leave(env, around);
+    let bodies = with_body(stated)?;
+    Ok(bodies)
+}
+
 /// The bodies in a declaration, behind those before it.
 #[cycle(bodies)]
 fn declaration(
@@ -106,17 +133,7 @@ fn declaration(
                 match routine {
                     None => Ok(before),
                     Some(found) => {
-                        let around = enter(alloc, env, found)?;
-                        let stated = block(
-                            alloc,
-                            env,
-                            report,
-                            before,
-                            inner.decls.as_slice(),
-                            inner.body.as_slice(),
-                        )?;
-                        leave(env, around);
-                        let bodies = with_body(stated)?;
+                        let bodies = procedure(alloc, env, report, before, found, inner)?;
                         Ok(bodies)
                     }
                 }

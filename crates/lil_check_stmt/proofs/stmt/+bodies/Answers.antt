@@ -1,7 +1,7 @@
 use Rattle.std.proofs.Common.{rules, ◌∙◌, refl, arith}
 use Rattle.lil_report.specs.Laws.{said_value, said_more, said_all}
 use Rattle.lil_check_stmt.specs.Stmts.{decl_step}
-use Rattle.lil_check_stmt.proofs.Nesting.{no_constant, no_type, no_variables, no_block, is_body, no_routine, is_decl, is_block}
+use Rattle.lil_check_stmt.proofs.Nesting.{no_constant, no_type, no_variables, no_block, is_body, is_inside, no_routine, is_decl, is_block}
 use Rattle.lil_check_stmt.proofs.stmt.+bodies.Goals as goal
 
 pub declarations-loop-one-init : goal.declarations-loop-one-init
@@ -39,5 +39,8 @@ pub declaration-returns-in-None-routine-clause-said : goal.declaration-returns-i
 declaration-returns-in-None-routine-clause-said t c = no_routine c.args.env.now c.args.before c.in-ProcIs.heading c.in-ProcIs.inner c.in-Some.inner c.in-ProcIs.is c.in-Some.is c.find.ensures c.routine_of-routine.ensures c.in-None-routine.is
 
 pub declaration-returns-in_ok-bodies-in-Some-routine-clause-said : goal.declaration-returns-in_ok-bodies-in-Some-routine-clause-said
-declaration-returns-in_ok-bodies-in-Some-routine-clause-said t c = is_body c.args.env.now c.args.before c.in-ProcIs.heading c.in-ProcIs.inner c.in-Some.inner c.in-ProcIs.is c.in-Some.is c.in-Some-routine.found c.as_slice.result.now c.as_slice-in-Some-routine.result.now
-    c.find.ensures c.routine_of-routine.ensures c.in-Some-routine.is c.in_ok-around-in-Some-routine.ensures.inside c.as_slice.ensures c.as_slice-in-Some-routine.ensures c.in_ok-stated-in-Some-routine.ensures.said c.in_ok-bodies-in-Some-routine.ensures
+declaration-returns-in_ok-bodies-in-Some-routine-clause-said t c = is_body c.args.env.now c.args.before c.in-ProcIs.heading c.in-ProcIs.inner c.in-Some.inner c.in-ProcIs.is c.in-Some.is c.in-Some-routine.found
+    c.find.ensures c.routine_of-routine.ensures c.in-Some-routine.is c.in_ok-bodies-in-Some-routine.ensures.said
+
+pub procedure-returns-clause-said : goal.procedure-returns-clause-said
+procedure-returns-clause-said t c = is_inside c.args.env.now c.args.before c.args.inner.now c.args.found c.as_slice.result.now c.as_slice-2.result.now c.in_ok-around.ensures.inside c.as_slice.ensures c.as_slice-2.ensures c.in_ok-stated.ensures.said c.in_ok-bodies.ensures
