@@ -4,11 +4,11 @@ use Rattle.lil_base.specs.declared.fault.{FaultKind.TheVariants.NotBuilt, Place.
 use Rattle.lil_language.specs.declared.unit.{Section.Section, Constant.Constant, TypeName.TypeName, Variables.Variables, Heading.Heading, Decl.{Decl, TheOpen.Decl-F, TheFolds.{map-Decl, fold-Block, fold-roll-Decl, fold_out-Block}, TheViews.roll-Decl}, Block.{Block, out-Block}}
 use Rattle.lil_language.specs.declared.unit.Decl.TheVariants as d
 use Rattle.lil_language.specs.declared.unit.Decl.TheOpen as o
-use Rattle.lil_report.specs.{declared.report.Fault.Fault, Told.{Row, row, noted, after, walk, Said}, Laws.{said_as, said_to, said_after, said_map, walk_map}}
+use Rattle.lil_report.specs.{declared.report.Fault.Fault, Told.{row, noted, after, walk, Said}, Laws.{said_as, said_to, said_after, said_map, walk_map}}
 use Rattle.lil_scope.specs.{declared.env.Env.Env, Names.{inside, outside, with_block}}
 use Rattle.lil_check_value.specs.Looks.{said_not_built}
 use Rattle.lil_check_type.specs.{Walks.walk_steps, Made.Made, Records.no_parameters}
-use Rattle.lil_check_decl.specs.{declared.{decl.Around.Around, home.Home.Home}, Constants.constant_step, Headings.{Headed, section_step, home_at, named_means, heading_type, heading_means}, Decls.{Means, Sense, with_no_types, expecting, decl_step, around, back, type_step, variables_step, wait_step, settled, procedure_means, decl_layer, block_layer, decl_sense, decls_mean}}
+use Rattle.lil_check_decl.specs.{declared.{decl.Around.Around, home.Home.Home}, Constants.constant_step, Headings.{Headed, section_step, home_at, named_means, heading_type, heading_means}, Decls.{Means, Sense, with_no_types, expecting, decl_step, around, back, type_step, variables_step, block_end, procedure_means, decl_layer, block_layer, decl_sense, decls_inside}}
 
 block_means : Block → Means
 block_means = fold-Block Sense Means decl_layer block_layer
@@ -17,10 +17,10 @@ rolled : (x : Decl-F Decl Block) → decl_sense (roll-Decl x) ≡ decl_layer (ma
 unfolding decl_sense block_means
 rolled = fold-roll-Decl Sense Means decl_layer block_layer
 
-block_is : (b : Block) (e : Env) → block_means b e ≡ decls_mean e (out-Block b).decls
-unfolding decl_sense block_means decls_mean
+block_is : (b : Block) (e : Env) → block_means b e ≡ decls_inside (length e.waits) e (out-Block b).decls
+unfolding decl_sense block_means decls_inside
 block_is b e = ap (λ m. m e) (fold_out-Block Sense Means decl_layer block_layer b)
-    ∙ (λ j. after (walk_map (λ (e : Env) (s : Sense). s.means e) decl_sense (expecting e (map decl_sense (out-Block b).decls)) (out-Block b).decls j) (λ f. walk wait_step (settled f) f.waits))
+    ∙ (λ j. after (walk_map (λ (e : Env) (s : Sense). s.means e) decl_sense (expecting e (map decl_sense (out-Block b).decls)) (out-Block b).decls j) (block_end (length e.waits)))
 
 pub constants_are : (p : Place) (xs : List Constant) → decl_sense (d.ConstIs p xs) ≡ with_no_types (λ e. walk constant_step e xs)
 constants_are p xs = ap decl_sense (sym (d.rolls-ConstIs p xs)) ∙ rolled (o.ConstIs p xs)
@@ -34,7 +34,7 @@ variables_are p xs = ap decl_sense (sym (d.rolls-VarsAre p xs)) ∙ rolled (o.Va
 pub heading_is : (h : Heading) → decl_sense (d.ProcIs h None) ≡ with_no_types (λ e. heading_means e h)
 heading_is h = ap decl_sense (sym (d.rolls-ProcIs h None)) ∙ rolled (o.ProcIs h None)
 
-pub procedure_is : (h : Heading) (b : Block) → decl_sense (d.ProcIs h (Some b)) ≡ with_no_types (λ e. procedure_means e h (λ f. decls_mean f (out-Block b).decls))
+pub procedure_is : (h : Heading) (b : Block) → decl_sense (d.ProcIs h (Some b)) ≡ with_no_types (λ e. procedure_means e h (λ f. decls_inside (length f.waits) f (out-Block b).decls))
 procedure_is h b = ap decl_sense (sym (d.rolls-ProcIs h (Some b))) ∙ rolled (o.ProcIs h (Some b)) ∙ (λ j. with_no_types (λ e. procedure_means e h (λ f. block_is b f j)))
 
 pub ruleset decl_steps = (walk_steps, constants_are, types_are, variables_are, heading_is, procedure_is)
@@ -46,14 +46,15 @@ no_types_of h (Some b) = ap (λ s. s.types) (procedure_is h b)
 
 -- ---- what is said of a form, from what is said of its parts
 module _ (e : Env) {r : Option Fault} where
-  pub is_procedure : {of : Decl} (h : Heading) (b : Block) (ds : List Decl) {body : Option Block} {k n : ℕ} {a : Around} {f g v w : Env} {s t : Option Fault} → of ≡ d.ProcIs h body → body ≡ Some b → ds ≡ (out-Block b).decls
-      → n ≡ length e.procedures → Said (heading_means e h) r f t → k ≡ length e.scopes.blocks → a ≡ around f → g ≡ inside k (Some n) f → Said (decls_mean g ds) t v s → w ≡ back a v → Said (decl_step e of) r w s
-  is_procedure h b ds {k = k} {n = n} {a = a} {f = f} {g = g} {v = v} {w = w} {s = s} {t = t} is some these number l num stands enters m leaves = said_as (ap (decl_step e) (is ∙ ap (d.ProcIs h) some) ∙ ap (λ s. s.means e) (procedure_is h b))
+  pub is_procedure : {of : Decl} (h : Heading) (b : Block) (ds : List Decl) {body : Option Block} {k n u : ℕ} {a : Around} {f g v w : Env} {s t : Option Fault} → of ≡ d.ProcIs h body → body ≡ Some b → ds ≡ (out-Block b).decls
+      → n ≡ length e.procedures → Said (heading_means e h) r f t → u ≡ length f.waits → k ≡ length e.scopes.blocks → a ≡ around f → g ≡ inside k (Some n) f → Said (decls_inside u g ds) t v s → w ≡ back a v → Said (decl_step e of) r w s
+  is_procedure h b ds {k = k} {n = n} {u = u} {a = a} {f = f} {g = g} {v = v} {w = w} {s = s} {t = t} is some these number l waiting num stands enters m leaves = said_as (ap (decl_step e) (is ∙ ap (d.ProcIs h) some) ∙ ap (λ s. s.means e) (procedure_is h b))
       (said_after _ _ l (said_to (said_map (outside f)
-      (subst (λ ds. Said (decls_mean (inside (length e.scopes.blocks) (Some (length e.procedures)) f) ds) t v s) these
-      (subst (λ k. Said (decls_mean (inside k (Some (length e.procedures)) f) ds) t v s) num
-      (subst (λ n. Said (decls_mean (inside k (Some n) f) ds) t v s) number
-      (subst (λ g. Said (decls_mean g ds) t v s) enters m)))))
+      (subst (λ ds. Said (decls_inside (length f.waits) (inside (length e.scopes.blocks) (Some (length e.procedures)) f) ds) t v s) these
+      (subst (λ k. Said (decls_inside (length f.waits) (inside k (Some (length e.procedures)) f) ds) t v s) num
+      (subst (λ n. Said (decls_inside (length f.waits) (inside k (Some n) f) ds) t v s) number
+      (subst (λ g. Said (decls_inside (length f.waits) g ds) t v s) enters
+      (subst (λ u. Said (decls_inside u g ds) t v s) waiting m))))))
       (leaves ∙ ap (λ a. back a v) stands)))
 
   pub is_heading : (h : Heading) (k : ℕ) (ss : List Section) {b : Env} {home : Home} {q : Headed} {m : Made} {f : Env} {a s t u : Option Fault} → a ≡ noted r (row true h.place NotBuilt) → k ≡ length e.scopes.blocks → b ≡ with_block e → home ≡ home_at b k → ss ≡ h.sections

@@ -1,5 +1,5 @@
 -- What declarations mean: what is declared behind them, and the tests of their nodes.
-use Rattle.std.specs.Prelude.{ℕ, length, List, [], ◌∷◌, map, Option, Some, None}
+use Rattle.std.specs.Prelude.{ℕ, length, take, drop, List, [], ◌∷◌, map, Option, Some, None}
 use Rattle.lil_text.specs.declared.tree.{Ident.Ident, Qualident.Qualident}
 use Rattle.lil_language.specs.declared.unit.{Sort.Sort, TypeName.TypeName, Variables.Variables, Heading.Heading, Decl.{Decl, TheOpen.{Decl-F, Block-F}, TheFolds.fold-Decl}}
 use Rattle.lil_language.specs.declared.unit.Decl.TheOpen as d
@@ -40,8 +40,12 @@ pointing e p None = e
 abbrev pub wait_step : Env → Wait → Env × List Row
 wait_step e w = after (type_named e (bare w)) (λ o. (pointing e w.pointer o, []))
 
-abbrev pub settled : Env → Env
-settled e = record e { waits = []; coming = [] }
+-- so many pointers wait for the ends of the blocks around it
+abbrev pub settled : ℕ → Env → Env
+settled n e = record e { waits = take n e.waits; coming = [] }
+
+abbrev pub block_end : ℕ → Env → Env × List Row
+block_end n e = walk wait_step (settled n e) (drop n e.waits)
 
 -- ---- procedures: what is declared inside is seen there
 abbrev pub procedure_means : Env → Heading → (Env → Env × List Row) → Env × List Row
@@ -49,10 +53,10 @@ procedure_means e h body = after (heading_means e h) (λ g. after (body (inside 
 
 -- what stands around a block, and the block at hand again
 abbrev pub around : Env → Around
-around e = record { outer = e.scopes.outer; inner = e.scopes.inner; waits = e.waits; coming = e.coming; withs = e.withs; procedure = e.procedure }
+around e = record { outer = e.scopes.outer; inner = e.scopes.inner; coming = e.coming; withs = e.withs; procedure = e.procedure }
 
 abbrev pub back : Around → Env → Env
-back a f = record f { scopes = record f.scopes { outer = a.outer; inner = a.inner }; waits = a.waits; coming = a.coming; withs = a.withs; procedure = a.procedure }
+back a f = record f { scopes = record f.scopes { outer = a.outer; inner = a.inner }; coming = a.coming; withs = a.withs; procedure = a.procedure }
 
 abbrev pub routine_means : Env → Heading → Option (Env → Env × List Row) → Env × List Row
 routine_means e h (Some body) = procedure_means e h body
@@ -88,14 +92,18 @@ abbrev pub expecting : Env → List Sense → Env
 expecting e ss = record e { coming = with_types_in [] ss }
 
 abbrev pub block_layer : Block-F Sense Means → Means
-block_layer b e = after (walk (λ (e : Env) (s : Sense). s.means e) (expecting e b.decls) b.decls) (λ f. walk wait_step (settled f) f.waits)
+block_layer b e = after (walk (λ (e : Env) (s : Sense). s.means e) (expecting e b.decls) b.decls) (block_end (length e.waits))
 
 unfoldable pub decl_sense : Decl → Sense
 decl_sense = fold-Decl Sense Means decl_layer block_layer
 
--- the same of a block, over its trees
+-- the same over trees
 abbrev pub decl_step : Env → Decl → Env × List Row
 decl_step e x = (decl_sense x).means e
 
+unfoldable pub decls_inside : ℕ → Env → List Decl → Env × List Row
+decls_inside n e ds = after (walk decl_step (expecting e (map decl_sense ds)) ds) (block_end n)
+
+-- a module has no block with types of its own around it
 unfoldable pub decls_mean : Env → List Decl → Env × List Row
-decls_mean e ds = after (walk decl_step (expecting e (map decl_sense ds)) ds) (λ f. walk wait_step (settled f) f.waits)
+decls_mean e ds = decls_inside 0 e ds

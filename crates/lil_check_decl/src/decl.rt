@@ -129,12 +129,13 @@ fn settle_all(alloc: Global, env: &mut Env, report: &mut Report, of: &[Wait]) ->
     Ok(())
 }
 
-fn take_waits(alloc: Global, env: &mut Env) -> Items<Wait>
-    ensures waits { result ≡ env.old.waits }
-    ensures rest { env.new ≡ spec.settled env.old }
+/// The end of a block, where so many pointers wait for the ends of the blocks around it.
+fn end_block(alloc: Global, env: &mut Env, report: &mut Report, around: usize) -> Result<(), Memory>
+    ensures { IfOk result (λ o. Said (spec.block_end around env.old) report.old env.new report.new) }
 {
     env.coming = Coming::new(alloc);
-    std::mem::replace(&mut env.waits, Items::new(alloc))
+    let waits = env.waits.split_off(around)?;
+    settle_all(alloc, env, report, waits.as_slice())
 }
 
 /// The names of types more.
@@ -183,7 +184,6 @@ fn expect(alloc: Global, env: &mut Env, of: &[Decl]) -> Result<(), Memory>
 pub struct Around {
     outer: Items<usize>,
     inner: usize,
-    waits: Items<Wait>,
     coming: Coming,
     withs: Withs,
     procedure: Option<usize>,
@@ -198,7 +198,6 @@ fn enter(alloc: Global, env: &mut Env, block: usize, procedure: usize) -> Result
     let inner = env.scopes.inner;
     env.scopes.outer.push(inner)?;
     env.scopes.inner = block;
-    let waits = std::mem::replace(&mut env.waits, Items::new(alloc));
     let coming = std::mem::replace(&mut env.coming, Coming::new(alloc));
     let withs = std::mem::replace(&mut env.withs, Withs::new(alloc));
     let around = env.procedure;
@@ -206,7 +205,6 @@ fn enter(alloc: Global, env: &mut Env, block: usize, procedure: usize) -> Result
     Ok(Around {
         outer,
         inner,
-        waits,
         coming,
         withs,
         procedure: around,
@@ -219,7 +217,6 @@ fn leave(env: &mut Env, around: Around)
 {
     env.scopes.outer = around.outer;
     env.scopes.inner = around.inner;
-    env.waits = around.waits;
     env.coming = around.coming;
     env.withs = around.withs;
     env.procedure = around.procedure;
@@ -240,8 +237,9 @@ fn decl(alloc: Global, env: &mut Env, report: &mut Report, of: &Decl) -> Result<
             let block = heading(alloc, env, report, head)?;
             match body {
                 Some(body) => {
+                    let waiting = env.waits.len();
                     let around = enter(alloc, env, block, number)?;
-                    declarations(alloc, env, report, &body.decls)?;
+                    inside_block(alloc, env, report, waiting, &body.decls)?;
                     leave(env, around);
                     Ok(())
                 }
@@ -261,9 +259,25 @@ fn each_decl(alloc: Global, env: &mut Env, report: &mut Report, of: &[Decl]) -> 
     Ok(())
 }
 
-/// All that is declared behind the declarations of a block, those of the procedures in it included.
+/// All that is declared behind the declarations of a block, where so many pointers wait for the ends of the blocks around it.
 #[cycle(declarations)]
-#[tactic(auto, using(lil_check_type::specs::Walks::walk_steps), unfolding(crate::specs::Decls::decls_mean, lil_report::specs::Told::after, lil_report::specs::Told::tell))]
+#[tactic(auto, using(lil_check_type::specs::Walks::walk_steps), unfolding(crate::specs::Decls::decls_inside, lil_report::specs::Told::after, lil_report::specs::Told::tell))]
+fn inside_block(
+    alloc: Global,
+    env: &mut Env,
+    report: &mut Report,
+    around: usize,
+    of: &Items<Decl>,
+) -> Result<(), Memory>
+    ensures { IfOk result (λ o. Said (spec.decls_inside around env.old of.now) report.old env.new report.new) }
+{
+    expect(alloc, env, of.as_slice())?;
+    each_decl(alloc, env, report, of.as_slice())?;
+    end_block(alloc, env, report, around)
+}
+
+/// All that is declared behind the declarations of a module, those of the procedures in it included.
+#[tactic(auto, unfolding(crate::specs::Decls::decls_mean))]
 pub fn declarations(
     alloc: Global,
     env: &mut Env,
@@ -272,8 +286,5 @@ pub fn declarations(
 ) -> Result<(), Memory>
     ensures { IfOk result (λ o. Said (spec.decls_mean env.old of.now) report.old env.new report.new) }
 {
-    expect(alloc, env, of.as_slice())?;
-    each_decl(alloc, env, report, of.as_slice())?;
-    let waits = take_waits(alloc, env);
-    settle_all(alloc, env, report, waits.as_slice())
+    inside_block(alloc, env, report, 0, of)
 }

@@ -32,7 +32,7 @@ routine_of _ = None
 
 -- the block at hand as it was before another was entered
 abbrev pub back : Around → Env → Env
-back a f = record f { scopes = record f.scopes { outer = a.outer; inner = a.inner }; waits = a.waits; coming = a.coming; withs = a.withs; procedure = a.procedure }
+back a f = record f { scopes = record f.scopes { outer = a.outer; inner = a.inner }; coming = a.coming; withs = a.withs; procedure = a.procedure }
 
 -- the block of a procedure sees all that the blocks around it declare, also behind it
 abbrev pub body_means : Option Routine → BlockMeaning → DeclMeaning

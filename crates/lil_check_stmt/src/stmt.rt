@@ -8,7 +8,7 @@ use lil_base::{Items, Memory};
 use lil_language::{Block, Decl, Stmt};
 use lil_report::Report;
 use lil_resolved::RStmt;
-use lil_scope::{Coming, Env, Routine, Thing, Wait, Withs};
+use lil_scope::{Coming, Env, Routine, Thing, Withs};
 use std::alloc::Global;
 
 /// The statements of all procedures that a block declares, and its own, each where they have code.
@@ -32,7 +32,6 @@ fn routine_of(of: Option<Thing>) -> Option<Routine>
 struct Around {
     outer: Items<usize>,
     inner: usize,
-    waits: Items<Wait>,
     coming: Coming,
     withs: Withs,
     procedure: Option<usize>,
@@ -47,7 +46,6 @@ fn enter(alloc: Global, env: &mut Env, routine: Routine) -> Result<Around, Memor
     let inner = env.scopes.inner;
     env.scopes.outer.push(inner)?;
     env.scopes.inner = routine.block;
-    let waits = std::mem::replace(&mut env.waits, Items::new(alloc));
     let coming = std::mem::replace(&mut env.coming, Coming::new(alloc));
     let withs = std::mem::replace(&mut env.withs, Withs::new(alloc));
     let procedure = env.procedure;
@@ -55,7 +53,6 @@ fn enter(alloc: Global, env: &mut Env, routine: Routine) -> Result<Around, Memor
     Ok(Around {
         outer,
         inner,
-        waits,
         coming,
         withs,
         procedure,
@@ -68,7 +65,6 @@ fn leave(env: &mut Env, around: Around)
 {
     env.scopes.outer = around.outer;
     env.scopes.inner = around.inner;
-    env.waits = around.waits;
     env.coming = around.coming;
     env.withs = around.withs;
     env.procedure = around.procedure;

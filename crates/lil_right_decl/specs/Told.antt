@@ -10,7 +10,7 @@ use Rattle.lil_shapes.specs.ShapeSound.{earlier}
 use Rattle.lil_forms.specs.Scopes.{fine_more}
 use Rattle.lil_check_value.specs.Looks.{not_built, type_named}
 use Rattle.lil_check_type.specs.{Made.Made, Sorts.sort_means}
-use Rattle.lil_check_decl.specs.{Constants.constant_step, Decls.{type_thing, form_means, type_step, variables_step, bare, pointing, wait_step, settled, Means, Sense, expecting, decl_layer, block_layer, decl_sense, decl_step, decls_mean}, Headings.{variable_thing, with_variable, variable_step, here, heading_means}, declared.home.Home.Home}
+use Rattle.lil_check_decl.specs.{Constants.constant_step, Decls.{type_thing, form_means, type_step, variables_step, bare, pointing, wait_step, settled, block_end, Means, Sense, expecting, decl_layer, block_layer, decl_sense, decl_step, decls_inside, decls_mean}, Headings.{variable_thing, with_variable, variable_step, here, heading_means}, declared.home.Home.Home}
 use Rattle.lil_interfaces.specs.{Interfaces.residents, Imports.{imports_mean, nothing_imported, export_step, exports_mean}, declared.importing.{Imported.Imported, Taken.Taken}}
 use Rattle.lil_right_type.specs.Right.{Right, after_right}
 use Rattle.lil_right_sort.specs.{Growth.{Few, grown_same, last_there, IsThing, Declared, declared_waits, bound_declared, more_declared}, Simple.{Begun, Follows, SortTold, sort_later, walk_keeps, named_right}, Sorts.sort_right}
@@ -103,10 +103,10 @@ decl_behind e f x b = subst (λ (s : Sense). Right (Behind e) (s.means f)) (sym 
     by (d.ProcIs h (Some w)) = after_right (λ g. ⊥) (Behind e) (heading_means f h) _ (heading_wrong f h) (λ g never. absurd never)
 
 decls_told : (e : Env) (ds : List Decl) → Begun e → Right Begun (decls_mean e ds)
-unfolding decls_mean
-decls_told e ds h = after_right (Behind e) Begun (walk decl_step (expecting e (map decl_sense ds)) ds) (λ f. walk wait_step (settled f) f.waits)
+unfolding decls_mean decls_inside
+decls_told e ds h = after_right (Behind e) Begun (walk decl_step (expecting e (map decl_sense ds)) ds) (block_end 0)
     (walk_keeps (Behind e) decl_step (λ f x. decl_behind e f x) (expecting e (map decl_sense ds)) ds (grown_same e.types, λ few. declared_waits e (h few) e.waits (expecting e (map decl_sense ds)).coming))
-    (λ f b. walk_keeps Begun wait_step wait_told (settled f) f.waits (λ few. declared_waits f (b.1 few) [] []))
+    (λ f b. walk_keeps Begun wait_step wait_told (settled 0 f) f.waits (λ few. declared_waits f (b.1 few) [] []))
 
 -- behind them no pointer waits
 wait_settled : (e : Env) (w : Wait) → (wait_step e w).0.waits ≡ e.waits
@@ -123,8 +123,8 @@ waits_settled e [] = refl
 waits_settled e (w ∷ ws) = waits_settled (wait_step e w).0 ws ∙ wait_settled e w
 
 decls_settled : (e : Env) (ds : List Decl) → (decls_mean e ds).0.waits ≡ []
-unfolding decls_mean after
-decls_settled e ds = let f = (walk decl_step (expecting e (map decl_sense ds)) ds).0 in waits_settled (settled f) f.waits
+unfolding decls_mean decls_inside after
+decls_settled e ds = let f = (walk decl_step (expecting e (map decl_sense ds)) ds).0 in waits_settled (settled 0 f) f.waits
 
 -- ---- a text
 exports_told : (ts : List Taken) (e : Env) (xs : Option (List Ident)) → Begun e → Right Begun (exports_mean ts e xs)

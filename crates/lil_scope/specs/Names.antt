@@ -92,7 +92,8 @@ bind_at k e i t = (
 abbrev pub bind : Env → Ident → Thing → Env × List Row
 bind e i t = bind_at e.scopes.inner e i t
 
--- ---- pointers whose target the block at hand declares later: nothing lies behind them until its declarations end
+-- ---- pointers whose target their block declares later: nothing lies behind them until its declarations end, in the blocks
+-- inside of it neither
 -- the names of the types that a block declares, each once
 abbrev pub is_among : List (List ℕ) → List ℕ → Bool
 is_among ns n = list_any (same n) ns
@@ -119,8 +120,8 @@ abbrev pub level : Env → ℕ
 level e = length e.scopes.outer
 
 abbrev pub inside : ℕ → Option ℕ → Env → Env
-inside k p e = record e { scopes = record e.scopes { outer = e.scopes.outer ++ e.scopes.inner ∷ []; inner = k }; waits = []; coming = []; withs = []; procedure = p }
+inside k p e = record e { scopes = record e.scopes { outer = e.scopes.outer ++ e.scopes.inner ∷ []; inner = k }; coming = []; withs = []; procedure = p }
 
 -- what was declared inside, and the block at hand as it was in e
 abbrev pub outside : Env → Env → Env
-outside e f = record f { scopes = record f.scopes { outer = e.scopes.outer; inner = e.scopes.inner }; waits = e.waits; coming = e.coming; withs = e.withs; procedure = e.procedure }
+outside e f = record f { scopes = record f.scopes { outer = e.scopes.outer; inner = e.scopes.inner }; coming = e.coming; withs = e.withs; procedure = e.procedure }

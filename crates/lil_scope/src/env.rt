@@ -1,4 +1,4 @@
-ghost use Rattle.std.specs.Prelude.{◌≡◌, ◌++◌, ◌∷◌, [], length, slice_get, OnOk, OnErr, MatchOption};
+ghost use Rattle.std.specs.Prelude.{◌≡◌, ◌++◌, ◌∷◌, [], take, drop, length, slice_get, IfOk, OnOk, OnErr, MatchOption};
 ghost use Rattle.std.specs.Option.{option_copied};
 
 use crate::coming::Coming;
@@ -17,6 +17,62 @@ pub struct Wait {
     pub place: Place,
     pub name: Name,
     pub later: bool,
+}
+
+/// The pointer types that wait for the end of a block, behind those that wait for the ends of the blocks around it.
+#[derive(Drop)]
+pub struct Waits {
+    list: Vec<Wait>,
+}
+
+impl Model for Waits {
+    ghost use Rattle.std.specs.Prelude.{List};
+    ghost use Rattle.lil_scope.specs.declared.env.Wait.{Wait};
+
+    ghost Value = { List Wait };
+
+    ghost view = { λ w. w.list.items };
+}
+
+impl Waits {
+    pub fn new(alloc: Global) -> Waits
+        ensures { result ≡ [] }
+    {
+        Waits {
+            list: Vec::new(alloc),
+        }
+    }
+
+    pub fn as_slice(&self) -> &[Wait]
+        ensures { result.now ≡ self.now }
+    {
+        self.list.as_slice()
+    }
+
+    pub fn len(&self) -> usize
+        ensures { result ≡ length self.now }
+    {
+        self.list.len()
+    }
+
+    /// One pointer more.
+    pub fn push(&mut self, wait: Wait) -> Result<(), Memory>
+        ensures { IfOk result (λ o. self.new ≡ self.old ++ wait ∷ []) }
+    {
+        self.list.push(wait)?;
+        Ok(())
+    }
+
+    /// Those behind the first so many, which wait no longer.
+    #[tactic(auto, using(std::proofs::lemmas::List::take_min, std::proofs::lemmas::List::drop_min))]
+    pub fn split_off(&mut self, first: usize) -> Result<Items<Wait>, Memory>
+        ensures kept { IfOk result (λ ws. self.new ≡ take first self.old) }
+        ensures rest { IfOk result (λ ws. ws ≡ drop first self.old) }
+    {
+        let first = first.min(self.list.len());
+        let rest = self.list.split_off(first)?;
+        Ok(Items::of_vec(rest))
+    }
 }
 
 /// The types of the records of all WITH around a statement, the outermost first.
@@ -66,7 +122,7 @@ impl Withs {
 }
 
 /// All that is declared so far: the names, the types, the texts of constants, the variables and procedures of the module and of
-/// all its procedures, the pointers that wait for the end of the block at hand, the names of the types that it declares, the records
+/// all its procedures, the pointers that wait for the end of the block at hand and of those around it, the names of the types that it declares, the records
 /// of the WITH around, and the procedure at hand, if it isn't the module's body.
 #[derive(Drop)]
 pub struct Env {
@@ -75,7 +131,7 @@ pub struct Env {
     pub texts: Items<Shared<Text>>,
     pub variables: Items<RVar>,
     pub procedures: Items<RProc>,
-    pub waits: Items<Wait>,
+    pub waits: Waits,
     pub coming: Coming,
     pub withs: Withs,
     pub procedure: Option<usize>,

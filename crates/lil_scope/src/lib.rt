@@ -10,7 +10,7 @@ mod thing;
 
 pub use built::is_built;
 pub use coming::Coming;
-pub use env::{Env, Wait, Withs};
+pub use env::{Env, Wait, Waits, Withs};
 pub use names::{bind, bind_at, find_in, is_later, waits_for};
 pub use scope::{Block, Blocks, Scopes};
 pub use thing::{Chars, Entry, Kind, Routine, Thing, Variable};

@@ -78,7 +78,7 @@ fn is_wait_for(pointer: TypeId, wait: &Wait) -> bool
     wait.pointer == pointer && wait.later
 }
 
-/// Whether the block at hand declares a pointer's target later.
+/// Whether the block at hand, or one around it, declares a pointer's target later.
 pub fn waits_for(env: &Env, pointer: TypeId) -> bool
     ensures { result ≡ spec.waits_for env.now pointer }
 {
