@@ -10,10 +10,10 @@ use Rattle.lil_base.specs.declared.request.Request as request
 use Rattle.lil_mcode.specs.{declared.machine.Event.{Event, TheVariants.{Went, Request, LevelEnded, Trap, Limit, BadCode}}}
 use Rattle.lil_mcode.specs.Table.{Module, State, module_at, going, bad, mstep, act, fetched, performed, result_row, on_one, on_two, on_three, chosen_row, begun_row, trap_row, array_lies, request_row, end_row, body_row, called_row, based_row}
 
--- a property that each outcome of a row at s has: it goes on, asks with its words on the stack and its array in the store, or changes
--- nothing
+-- a property that each outcome of a row at s has: it goes on, with a mark if there was one, asks with its words on the stack and its array
+-- in the store, or changes nothing
 pub record Holds (s : State) (P : Event × State → Type 0) : Type 0 where
-  pub on : (t : State) → P (Went, t)
+  pub on : (t : State) → t.marked ≡ s.marked → P (Went, t)
   pub asked : (r : request.Request) (q : ℕ) → request_words r ≤ length s.stack → array_lies r s.stack ≡ true → P (Request r, going s q s.stack)
   pub trap : (k : TrapKind) → P (Trap k, s)
   pub limit : (k : LimitKind) → P (Limit k, s)
@@ -26,7 +26,7 @@ module _ (s : State) (P : Event × State → Type 0) (p : Holds s P) where
   either false x y f g = g
 
   result_has : (q : ℕ) (rest : List ℕ) (r : Result ℤ ArithFault) → P (result_row s q rest r)
-  result_has q rest (Ok z) = p.on _
+  result_has q rest (Ok z) = p.on _ refl
   result_has q rest (Err e) = p.trap _
 
   one_has : (stack : List ℕ) (f : ℕ → List ℕ → Event × State) → ((x : ℕ) (rest : List ℕ) → P (f x rest)) → P (on_one s stack f)
@@ -76,7 +76,7 @@ module _ (s : State) (P : Event × State → Type 0) (p : Holds s P) where
 
   called_has : (n at q : ℕ) (e : Option ℕ) → P (called_row n at q s e)
   called_has n at q None = p.bad
-  called_has n at q (Some e) = p.on _
+  called_has n at q (Some e) = p.on _ refl
 
   based_has : (base : Option ℕ) (w : ℕ) (f : ℕ → Event × State) → ((a : ℕ) → P (f a)) → P (based_row base w s f)
   based_has None w f m = p.bad

@@ -17,4 +17,4 @@ Asks BadCode t = Unit {0}
 pub request_has : (s t : State) (r : request.Request) → mstep s ≡ (Request r, t) → (request_words r ≤ length t.stack) × (array_lies r t.stack ≡ true)
 request_has s t r h =
     let P : Event × State → Type 0 = λ x. Asks x.0 x.1 in
-    subst P h (step_has s P (record { on = λ t. tt; asked = λ r q fits lies. (fits, lies); trap = λ k. tt; limit = λ k. tt; bad = tt; ended = tt }))
+    subst P h (step_has s P (record { on = λ t mark. tt; asked = λ r q fits lies. (fits, lies); trap = λ k. tt; limit = λ k. tt; bad = tt; ended = tt }))

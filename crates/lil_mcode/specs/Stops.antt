@@ -1,6 +1,6 @@
--- A trap, a limit and bad code change nothing.
-use Rattle.std.proofs.Common.{◌≡◌, refl, subst}
-use Rattle.lil_mcode.specs.{declared.machine.Event.{Event, TheVariants.{Trap, Limit, BadCode}}, Table.{State, mstep}, Outcomes.{Holds, step_has}}
+-- A trap, a limit and bad code change nothing, and what goes on keeps its mark.
+use Rattle.std.proofs.Common.{◌≡◌, true, refl, ap, ◌∙◌, subst}
+use Rattle.lil_mcode.specs.{declared.machine.Event.{Event, TheVariants.{Went, Request, LevelEnded, Trap, Limit, BadCode}}, Table.{State, mstep}, Outcomes.{Holds, step_has}}
 
 -- an event with which nothing was done
 abbrev pub IsStop : Event → Type 0
@@ -18,10 +18,23 @@ stop_stays s t e is stops = (subst (λ (r : Event × State). Stays s r) is (step
   where
     each : Holds s (Stays s)
     each = record {
-      on = λ t. record { still = λ h. absurd h };
+      on = λ t mark. record { still = λ h. absurd h };
       asked = λ r q h l. record { still = λ h. absurd h };
       trap = λ k. record { still = λ h. refl };
       limit = λ k. record { still = λ h. refl };
       bad = record { still = λ h. refl };
       ended = record { still = λ h. refl };
     }
+
+-- what goes on has a mark where it had one
+abbrev pub Marks : State → Event × State → Type 0
+Marks s (Went, t) = t.marked ≡ s.marked
+Marks s (Request r, t) = Unit {0}
+Marks s (LevelEnded, t) = Unit {0}
+Marks s (Trap k, t) = Unit {0}
+Marks s (Limit k, t) = Unit {0}
+Marks s (BadCode, t) = Unit {0}
+
+pub still_marked : (s t : State) (e : Event) → mstep s ≡ (e, t) → e ≡ Went → s.marked ≡ true → t.marked ≡ true
+still_marked s t e is goes mark =
+    subst (Marks s) (is ∙ ap (λ (e : Event). (e, t)) goes) (step_has s (Marks s) (record { on = λ t mark. mark; asked = λ r q h l. tt; trap = λ k. tt; limit = λ k. tt; bad = tt; ended = tt })) ∙ mark

@@ -140,6 +140,9 @@ impl Machine {
         self.steps = self.steps.saturating_add(1);
         self.at_module = self.processor.running();
         self.at_place = self.processor.place();
+        if !self.processor.is_marked() {
+            return Event::Limit(LimitKind::Stack);
+        }
         self.processor.row()
     }
 
@@ -153,6 +156,9 @@ impl Machine {
         ensures steps { self.new.steps ≡ min (self.old.steps + result.1) (2 ^ 64 - 1) }
         ensures rest { (self.new.levels ≡ self.old.levels) × (self.new.begun ≡ self.old.begun) × (self.new.data_end ≡ self.old.data_end) }
     {
+        if !self.processor.is_marked() {
+            return (self.step(), 1);
+        }
         let mut module = self.at_module;
         let mut place = self.at_place;
         for k in 0..most {

@@ -1,6 +1,6 @@
 //! The instruction at hand: its bytes, its operands, and its row.
 
-ghost use Rattle.std.specs.Prelude.{◌≡◌, ◌+◌, ◌*◌, ◌<◌, ◌≤◌, ◌^◌, length, drop, take, slice_get, OnSome, IfSome, IfNone, None, Some};
+ghost use Rattle.std.specs.Prelude.{◌≡◌, true, ◌+◌, ◌*◌, ◌<◌, ◌≤◌, ◌^◌, length, drop, take, slice_get, OnSome, IfSome, IfNone, None, Some};
 ghost use Rattle.std.specs.Option.{option_copied};
 ghost use Rattle.lil_asm.specs.{Bytes.{word_at, two_words_at, byte_word_at, with_entries, with_loop, row, row_0, row_2, row_3, row_4, row_5, row_6, row_7}, declared.instr.Instr.TheVariants.{Cas, Fri}};
 ghost use Rattle.lil_mcode.specs.{Fetch.{running_code, running_base, current}, Loaded.{loaded_at, IsPartOf}, Table.{mstep, performed}};
@@ -9,7 +9,7 @@ use super::{LoadedModule, Processor};
 use crate::arithmetic::{Comparison, Joining, Operator, trap_of, truth_word};
 use crate::machine::Event;
 use lil_asm::word_of_bytes;
-use lil_base::{Bytes, LimitKind};
+use lil_base::Bytes;
 
 impl Processor {
     /// Another module runs.
@@ -24,15 +24,20 @@ impl Processor {
         self.code_base = base;
     }
 
-    /// One step of the table.
+    /// Whether the level has begun: the mark of its first body had room.
+    pub fn is_marked(&self) -> bool
+        ensures { result ≡ self.now.marked }
+    {
+        self.marked
+    }
+
+    /// One step of the table, where the level has begun.
     #[inline(always)]
     #[tactic(auto, using(crate::proofs::Steps::fetched_current), unfolding(lil_asm::specs::Bytes::decoded))]
     pub fn row(&mut self) -> Event
+        requires { self.old.marked ≡ true }
         ensures { mstep self.old ≡ (result, self.new) }
     {
-        if !self.marked {
-            return Event::Limit(LimitKind::Stack);
-        }
         let place = usize::from(self.place);
         let Some(first) = self.byte(place) else {
             return Event::BadCode;
@@ -213,7 +218,6 @@ impl Processor {
                 };
                 self.store(self.data_base(), b, (place + 2) as u16)
             }
-            0x28..=0x2b => self.go_elsewhere(first, place),
             0x2c => {
                 let Some(w) = self.word(place + 1) else {
                     return Event::BadCode;
@@ -226,7 +230,6 @@ impl Processor {
                 };
                 self.push_address(self.data_base(), w, (place + 3) as u16)
             }
-            0x2e..=0x2f => self.go_elsewhere(first, place),
             0x30 => self.fetch(0, (place + 1) as u16),
             0x31 => self.put_word((place + 1) as u16),
             0x32 => {
@@ -307,30 +310,25 @@ impl Processor {
             0x5d => self.compare(Comparison::AtMostCardinal, (place + 1) as u16),
             0x5e => self.compare(Comparison::LessInteger, (place + 1) as u16),
             0x5f => self.compare(Comparison::AtMostInteger, (place + 1) as u16),
-            0x60 => self.go_to_frames(first, place),
             0x61 => {
                 let Some(b) = self.byte(place + 1) else {
                     return Event::BadCode;
                 };
                 self.mark(b, (place + 2) as u16)
             }
-            0x62..=0x64 => self.go_to_frames(first, place),
             0x65 => {
                 let Some((b, w)) = self.byte_and_word(place) else {
                     return Event::BadCode;
                 };
                 self.call(self.running, b, w, (place + 4) as u16)
             }
-            0x66..=0x67 => self.call_elsewhere(first, place),
             0x68 => {
                 let Some(w) = self.word(place + 1) else {
                     return Event::BadCode;
                 };
                 self.enter(w, (place + 3) as u16)
             }
-            0x69 => self.go_to_frames(first, place),
             0x6a => self.leave(),
-            0x6b => self.go_to_frames(first, place),
             0x70 => {
                 let Some(w) = self.word(place + 1) else {
                     return Event::BadCode;
@@ -397,6 +395,9 @@ impl Processor {
                     return Event::BadCode;
                 };
                 self.request(b, (place + 2) as u16)
+            }
+            0x28..=0x2b | 0x2e..=0x2f | 0x60 | 0x62..=0x64 | 0x66..=0x67 | 0x69 | 0x6b => {
+                self.rare(first, place)
             }
             0x00
             | 0x06..=0x0f

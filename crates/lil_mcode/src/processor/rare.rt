@@ -1,7 +1,7 @@
 //! The rows that are rare, by their bytes: words in other modules and in outer frames, words that go to the stack of
 //! frames, and calls in other modules and of procedure values.
 
-ghost use Rattle.std.specs.Prelude.{◌≡◌, ◌≢◌, ◌+◌, ◌<◌, ◌≤◌, ◌^◌, OnSome, IfSome, IfNone, None, Some};
+ghost use Rattle.std.specs.Prelude.{◌≡◌, ◌≢◌, ◌⊎◌, ◌+◌, ◌<◌, ◌≤◌, ◌^◌, OnSome, IfSome, IfNone, None, Some};
 ghost use Rattle.lil_asm.specs.{Bytes.{word_at, two_words_at, byte_word_at, with_call, row, row_0, row_2, row_3, row_4, row_5, row_6, row_7}, declared.instr.Instr.TheVariants.{Clx}};
 ghost use Rattle.lil_mcode.specs.{Fetch.{running_code, current}, Table.{performed}};
 
@@ -11,9 +11,8 @@ use crate::machine::Event;
 
 impl Processor {
     /// Words and addresses in other modules and in outer frames.
-    #[inline(never)]
     #[tactic(auto, unfolding(lil_asm::specs::Bytes::row_2))]
-    pub(super) fn go_elsewhere(&mut self, first: u8, place: usize) -> Event
+    fn go_elsewhere(&mut self, first: u8, place: usize) -> Event
         requires within { place < 65535 }
         requires first { (40 ≤ first) × (first ≤ 47) × (first ≢ 44) × (first ≢ 45) }
         ensures { performed self.old (current self.old) (row first (running_code self.old) place) ≡ (result, self.new) }
@@ -34,9 +33,8 @@ impl Processor {
     }
 
     /// Words that go to the stack of frames, and those that come back from it.
-    #[inline(never)]
     #[tactic(auto, unfolding(lil_asm::specs::Bytes::row_6))]
-    pub(super) fn go_to_frames(&mut self, first: u8, place: usize) -> Event
+    fn go_to_frames(&mut self, first: u8, place: usize) -> Event
         requires within { place < 65535 }
         requires first { (96 ≤ first) × (first ≤ 107) × (first ≢ 97) × (first ≢ 101) × (first ≢ 102) × (first ≢ 103) × (first ≢ 104) × (first ≢ 106) }
         ensures { performed self.old (current self.old) (row first (running_code self.old) place) ≡ (result, self.new) }
@@ -81,9 +79,8 @@ impl Processor {
     }
 
     /// Calls in other modules, and of procedure values.
-    #[inline(never)]
     #[tactic(auto, unfolding(lil_asm::specs::Bytes::row_6))]
-    pub(super) fn call_elsewhere(&mut self, first: u8, place: usize) -> Event
+    fn call_elsewhere(&mut self, first: u8, place: usize) -> Event
         requires within { place < 65535 }
         requires first { (102 ≤ first) × (first ≤ 103) }
         ensures { performed self.old (current self.old) (row first (running_code self.old) place) ≡ (result, self.new) }
@@ -98,5 +95,21 @@ impl Processor {
             return Event::BadCode;
         };
         self.call_value(words, (place + 3) as u16)
+    }
+
+    /// A rare row: the loop of the others has one call for all of them.
+    #[inline(never)]
+    pub(super) fn rare(&mut self, first: u8, place: usize) -> Event
+        requires within { place < 65535 }
+        requires elsewhere { (40 ≤ first) × (first ≢ 44) × (first ≢ 45) }
+        requires frames { (first < 48) ⊎ (95 < first) }
+        requires calls { (first ≤ 107) × (first ≢ 97) × (first ≢ 101) × (first ≢ 104) × (first ≢ 106) }
+        ensures { performed self.old (current self.old) (row first (running_code self.old) place) ≡ (result, self.new) }
+    {
+        match first {
+            0x28..=0x2f => self.go_elsewhere(first, place),
+            0x66..=0x67 => self.call_elsewhere(first, place),
+            _ => self.go_to_frames(first, place),
+        }
     }
 }

@@ -11,4 +11,4 @@ returns-in-0-3 c =
 pub returns-in-0-4 : goal.returns-in-0-4
 returns-in-0-4 c =
     let s = c.args.self.now in
-    (row_bad s (current s) c.args.first (running_code s) c.args.place (omega arith)).is
+    (row_bad s (current s) c.args.first (running_code s) c.args.place (grind arith)).is
