@@ -2,3 +2,4 @@ pub mod Bytes
 pub mod Decoding
 pub mod Requests
 pub mod Standing
+pub mod Stretches

@@ -10,7 +10,7 @@ use Rattle.lil_kinds.specs.{Forms.result, declared.found.Found.Found}
 use Rattle.lil_forms.specs.Statements.{located_in}
 use Rattle.lil_call.specs.{declared.{call.{Argument.Argument, Callee.Callee}, passing.Passed.Passed, routines.Invoked.Invoked}, Passing.{nothing_passed, arguments_mean}}
 use Rattle.lil_call.specs.Procedures.{standard_node, function_if, function_mean, of_all, ordinal_node, converted, converted_if, kept_if, procedure_if, procedure_mean, by_all, variable_node, operand_node, deep_node, done_if, variable_statement, operand_statement, with_variable, with_operand}
-use Rattle.lil_call.specs.Calls.{heading_node, depth_node, passed_if, routine_mean, call_found, routine_value, call_statement, routine_statement, value_of, statement_of}
+use Rattle.lil_call.specs.Calls.{is_resident, heading_node, depth_node, passed_if, routine_mean, call_found, routine_value, call_statement, routine_statement, value_of, statement_of}
 
 -- a part whose value is known, and what is built on that value
 said_at : {A B : Type 0} (m : A × List Row) (k : A → B × List Row) (x : A) {a : A} {b : B} {r s u : Option Fault} → Said m r a s → a ≡ x → Said (k x) s b u → Said (after m k) r b u
@@ -58,11 +58,11 @@ module _ (t : Table) (p : Place) (of : Standard) where
 -- ---- calls of procedures
 module _ (t : Table) (p : Place) (v : Invoked) where
   pub is_routine_call : (wanted : Bool) (xs : List Argument) (n : ℕ) (is : Bool) (start : Passed) {b : Bool} {q : Passed} {o : Option Passed} {r s u w : Option Fault}
-      → n ≡ length xs → Said (heading_node t p wanted v.sort n) r b s → b ≡ true → is ≡ is_some v.resident → start ≡ nothing_passed v.depth
+      → n ≡ length xs → Said (heading_node t p wanted v.sort n) r b s → b ≡ true → is ≡ is_resident v.target → start ≡ nothing_passed v.depth
       → Said (arguments_mean t is v.sort start xs) s q u → Said (depth_node p q) u o w → Said (routine_mean t p wanted v xs) r o w
   is_routine_call wanted xs n is start {b = b} {q = q} {r = r} {s = s} {u = u} e h i k j g l =
       said_at (heading_node t p wanted v.sort (length xs)) (passed_if t p v xs) true (subst (λ n. Said (heading_node t p wanted v.sort n) r b s) e h) i
-      (said_after (arguments_mean t (is_some v.resident) v.sort (nothing_passed v.depth) xs) (depth_node p) (subst (λ z. Said z s q u) (λ n. arguments_mean t (k n) v.sort (j n) xs) g) l)
+      (said_after (arguments_mean t (is_resident v.target) v.sort (nothing_passed v.depth) xs) (depth_node p) (subst (λ z. Said z s q u) (λ n. arguments_mean t (k n) v.sort (j n) xs) g) l)
 
   pub no_routine_call : (wanted : Bool) (xs : List Argument) (n : ℕ) {b : Bool} {r s : Option Fault}
       → n ≡ length xs → Said (heading_node t p wanted v.sort n) r b s → b ≡ false → Said (routine_mean t p wanted v xs) r None s

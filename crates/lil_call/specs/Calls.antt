@@ -1,5 +1,5 @@
 -- What calls mean, from what is known of their arguments.
-use Rattle.std.specs.Prelude.{ℕ, ◌==◌, nat_lt, Bool, true, false, not, is_some, ◌&&◌, if◌then◌else◌, List, [], ◌∷◌, length, Option, Some, None}
+use Rattle.std.specs.Prelude.{ℕ, ◌+◌, ◌==◌, nat_lt, Bool, true, false, not, is_some, ◌&&◌, if◌then◌else◌, List, [], ◌∷◌, length, Option, Some, None}
 use Rattle.lil_base.specs.declared.fault.{Place.Place, FaultKind.TheVariants.{ArgCount, NotCallable, ExprDeep}}
 use Rattle.lil_types.specs.Types.{Table}
 use Rattle.lil_declared.specs.declared.standard.Resident.{Resident}
@@ -10,8 +10,10 @@ use Rattle.lil_kinds.specs.{Forms.{is_routine, arity, result}, declared.found.Fo
 use Rattle.lil_kinds.specs.declared.found.Form.TheVariants as form
 use Rattle.lil_kinds.specs.declared.found.Standing.TheVariants as standing
 use Rattle.lil_forms.specs.{Statements.called, declared.arguments.Handed.Handed}
-use Rattle.lil_call.specs.{declared.{call.{Callee.Callee, Argument.Argument}, passing.Passed.Passed, routines.Invoked.Invoked}, Passing.{all_have_values, nothing_passed, arguments_mean}, Procedures.{agrees, function_mean, procedure_mean}}
+use Rattle.lil_call.specs.{declared.{call.{Callee.Callee, Argument.Argument}, passing.Passed.Passed, routines.{Invoked.Invoked, Target.Target}}, Passing.{all_have_values, nothing_passed, arguments_mean}, Procedures.{agrees, function_mean, procedure_mean}}
 use Rattle.lil_call.specs.declared.call.Callee.TheVariants as callee
+use Rattle.lil_call.specs.declared.routines.Target.TheVariants as target
+use Rattle.lil_resolved.specs.declared.resolved.RStmt.TheVariants as statement
 
 -- ---- calls of procedures
 -- where a value is wanted a function is called, else a proper procedure
@@ -33,10 +35,15 @@ depth_node p s = (
   row (nat_lt 12 s.depth) p ExprDeep ∷ [],
 )
 
+abbrev pub is_resident : Target → Bool
+is_resident (target.Resident r) = true
+is_resident (target.Own n levels) = false
+is_resident target.Value = false
+
 -- the arguments are looked at where their number is right
 abbrev pub passed_if : Table → Place → Invoked → List Argument → Bool → Option Passed × List Row
 passed_if t p v xs false = (None, [])
-passed_if t p v xs true = after (arguments_mean t (is_some v.resident) v.sort (nothing_passed v.depth) xs) (depth_node p)
+passed_if t p v xs true = after (arguments_mean t (is_resident v.target) v.sort (nothing_passed v.depth) xs) (depth_node p)
 
 abbrev pub routine_mean : Table → Place → Bool → Invoked → List Argument → Option Passed × List Row
 routine_mean t p wanted v xs = after (heading_node t p wanted v.sort (length xs)) (passed_if t p v xs)
@@ -50,14 +57,19 @@ call_found p (Some sort) (Some s) = Some (record { form = form.Nothing; kind = k
 abbrev pub routine_value : Table → Place → Invoked → List Argument → Option Found × List Row
 routine_value t p v xs = after (routine_mean t p true v xs) (λ s. (call_found p (result t v.sort) s, []))
 
--- code is made of calls of resident procedures alone
-abbrev pub call_of : Option Resident → Handed → Option RStmt
-call_of None h = None
-call_of (Some r) h = called r h
+-- a procedure of the module, by its number, and how many procedures out it is declared; the code has its number from 1, and both as bytes
+abbrev pub own_call : ℕ → ℕ → Option RStmt
+own_call n levels = if nat_lt n 255 && nat_lt levels 256 then Some (statement.Call (n + 1) levels) else None
+
+-- no code is made of a call of a variable's value
+abbrev pub call_of : Target → Handed → Option RStmt
+call_of (target.Resident r) h = called r h
+call_of (target.Own n levels) h = own_call n levels
+call_of target.Value h = None
 
 abbrev pub call_statement : Invoked → Option Passed → Option RStmt
 call_statement v None = None
-call_statement v (Some s) = call_of v.resident s.handed
+call_statement v (Some s) = call_of v.target s.handed
 
 abbrev pub routine_statement : Table → Place → Invoked → List Argument → Option RStmt × List Row
 routine_statement t p v xs = after (routine_mean t p false v xs) (λ s. (call_statement v s, []))
@@ -67,24 +79,24 @@ routine_statement t p v xs = after (routine_mean t p false v xs) (λ s. (call_st
 unfoldable pub no_call : {A : Type 0} → Place → Option A × List Row
 no_call p = (None, row true p NotCallable ∷ [])
 
-abbrev pub of_procedure : ℕ → Invoked
-of_procedure sort = record { sort = sort; depth = 1; resident = None }
+abbrev pub of_procedure : ℕ → ℕ → ℕ → Invoked
+of_procedure sort n levels = record { sort = sort; depth = 1; target = target.Own n levels }
 
 abbrev pub of_variable : ℕ → ℕ → Invoked
-of_variable sort depth = record { sort = sort; depth = depth; resident = None }
+of_variable sort depth = record { sort = sort; depth = depth; target = target.Value }
 
 abbrev pub of_resident : Resident → ℕ → Invoked
-of_resident r sort = record { sort = sort; depth = 1; resident = Some r }
+of_resident r sort = record { sort = sort; depth = 1; target = target.Resident r }
 
 abbrev pub value_of : Table → Place → Callee → List Argument → Option Found × List Row
-value_of t p (callee.Procedure sort) xs = routine_value t p (of_procedure sort) xs
+value_of t p (callee.Procedure sort n levels) xs = routine_value t p (of_procedure sort n levels) xs
 value_of t p (callee.Variable sort depth) xs = routine_value t p (of_variable sort depth) xs
 value_of t p (callee.Resident r sort) xs = routine_value t p (of_resident r sort) xs
 value_of t p (callee.Standard of) xs = function_mean t p of xs
 value_of t p callee.Other xs = no_call p
 
 abbrev pub statement_of : Table → Place → Callee → List Argument → Option RStmt × List Row
-statement_of t p (callee.Procedure sort) xs = routine_statement t p (of_procedure sort) xs
+statement_of t p (callee.Procedure sort n levels) xs = routine_statement t p (of_procedure sort n levels) xs
 statement_of t p (callee.Variable sort depth) xs = routine_statement t p (of_variable sort depth) xs
 statement_of t p (callee.Resident r sort) xs = routine_statement t p (of_resident r sort) xs
 statement_of t p (callee.Standard of) xs = procedure_mean t p of xs

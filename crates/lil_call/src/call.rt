@@ -5,7 +5,7 @@ ghost use Rattle.lil_call.specs.Calls as spec;
 use crate::functions::function_call;
 use crate::passing::all_have_values;
 use crate::procedures::procedure_call;
-use crate::routines::{Invoked, statement_call, value_call};
+use crate::routines::{Invoked, Target, statement_call, value_call};
 use lil_base::{FaultKind, Items, Memory, Place};
 use lil_declared::{Resident, Standard};
 use lil_kinds::Found;
@@ -14,11 +14,11 @@ use lil_resolved::RStmt;
 use lil_types::{TypeId, TypeTable};
 use std::alloc::Global;
 
-/// What is called: a procedure, by its procedure type; the value of a variable, by its type and its depth; a procedure of a
+/// What is called: a procedure, by its procedure type, its number, and how many procedures out it is declared; the value of a variable, by its type and its depth; a procedure of a
 /// resident module; a standard procedure; or what can't be called.
 #[derive(Clone, Copy)]
 pub enum Callee {
-    Procedure(TypeId),
+    Procedure(TypeId, usize, usize),
     Variable(TypeId, usize),
     Resident(Resident, TypeId),
     Standard(Standard),
@@ -32,13 +32,13 @@ pub enum Argument {
     Type(Place, Option<TypeId>),
 }
 
-fn of_procedure(sort: TypeId) -> Invoked
-    ensures { result ≡ spec.of_procedure sort }
+fn of_procedure(sort: TypeId, number: usize, levels: usize) -> Invoked
+    ensures { result ≡ spec.of_procedure sort number levels }
 {
     Invoked {
         sort,
         depth: 1,
-        resident: None,
+        target: Target::Own(number, levels),
     }
 }
 
@@ -48,7 +48,7 @@ fn of_variable(sort: TypeId, depth: usize) -> Invoked
     Invoked {
         sort,
         depth,
-        resident: None,
+        target: Target::Value,
     }
 }
 
@@ -58,7 +58,7 @@ fn of_resident(number: Resident, sort: TypeId) -> Invoked
     Invoked {
         sort,
         depth: 1,
-        resident: Some(number),
+        target: Target::Resident(number),
     }
 }
 
@@ -82,8 +82,8 @@ fn value(
     ensures { IfOk result (λ o. Said (spec.value_of t.now first callee arguments) report.old o report.new) }
 {
     match callee {
-        Callee::Procedure(sort) => {
-            let v = of_procedure(sort);
+        Callee::Procedure(sort, number, levels) => {
+            let v = of_procedure(sort, number, levels);
             value_call(alloc, t, report, first, v, arguments)
         }
         Callee::Variable(sort, depth) => {
@@ -110,8 +110,8 @@ fn statement(
     ensures { IfOk result (λ o. Said (spec.statement_of t.now first callee arguments) report.old o report.new) }
 {
     match callee {
-        Callee::Procedure(sort) => {
-            let v = of_procedure(sort);
+        Callee::Procedure(sort, number, levels) => {
+            let v = of_procedure(sort, number, levels);
             statement_call(alloc, t, report, first, v, arguments)
         }
         Callee::Variable(sort, depth) => {

@@ -15,13 +15,27 @@ use lil_scope::Kind;
 use lil_types::{TypeId, TypeTable};
 use std::alloc::Global;
 
-/// A procedure that is called: its procedure type, the depth of its designator, and which one of a resident module it is, if
-/// it is one.
+/// What is called: a procedure of a resident module; one of the module itself, by its number and how many procedures out
+/// it is declared; or the value of a variable.
+#[derive(Clone, Copy)]
+pub enum Target {
+    Resident(Resident),
+    Own(usize, usize),
+    Value,
+}
+
+/// A procedure that is called: its procedure type, the depth of its designator, and which one it is.
 #[derive(Clone, Copy)]
 pub struct Invoked {
     pub sort: TypeId,
     pub depth: usize,
-    pub resident: Option<Resident>,
+    pub target: Target,
+}
+
+fn is_resident(target: Target) -> bool
+    ensures { result ≡ spec.is_resident target }
+{
+    matches!(target, Target::Resident(_))
 }
 
 fn is_callable(t: &TypeTable, wanted: bool, sort: TypeId) -> bool
@@ -78,7 +92,7 @@ fn routine(
     let ready = heading(t, report, first, wanted, v.sort, count);
     if ready {
         let start = nothing_passed(alloc, v.depth);
-        let resident = v.resident.is_some();
+        let resident = is_resident(v.target);
         let passed = pass_all(t, report, resident, v.sort, start, arguments)?;
         Ok(not_deep(report, first, passed))
     } else {
@@ -123,16 +137,31 @@ pub(crate) fn value_call(
     Ok(call_found(first, sort, s))
 }
 
-/// Code is made of calls of resident procedures alone.
-fn call_of(resident: Option<Resident>, handed: Handed) -> Option<RStmt>
-    ensures { result ≡ spec.call_of resident handed }
+/// A call of one of the module's procedures, whose number from 1 and levels are bytes.
+fn own_call(number: usize, levels: usize) -> Option<RStmt>
+    ensures { result ≡ spec.own_call number levels }
 {
-    match resident {
-        None => {
+    if number < 255 && levels < 256 {
+        Some(RStmt::Call((number + 1) as u8, levels as u8))
+    } else {
+        None
+    }
+}
+
+/// No code is made of a call of a variable's value.
+fn call_of(target: Target, handed: Handed) -> Option<RStmt>
+    ensures { result ≡ spec.call_of target handed }
+{
+    match target {
+        Target::Resident(resident) => called(resident, handed),
+        Target::Own(number, levels) => {
+            drop(handed);
+            own_call(number, levels)
+        }
+        Target::Value => {
             drop(handed);
             None
         }
-        Some(resident) => called(resident, handed),
     }
 }
 
@@ -148,7 +177,7 @@ fn call_statement(v: Invoked, s: Option<Passed>) -> Option<RStmt>
                 ..
             } = s;
             drop(parameters);
-            call_of(v.resident, handed)
+            call_of(v.target, handed)
         }
     }
 }

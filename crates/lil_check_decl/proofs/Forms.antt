@@ -1,14 +1,16 @@
 -- What each form of declaration means, from what its parts mean.
-use Rattle.std.proofs.Common.{◌≡◌, ℕ, true, List, [], length, map, Option, Some, None, sym, ap, subst, ◌∙◌}
+use Rattle.std.proofs.Common.{◌≡◌, ℕ, Bool, refl, List, [], length, map, Option, Some, None, sym, ap, subst, ◌∙◌}
+use Rattle.std.specs.Prelude.{slice_get}
 use Rattle.lil_base.specs.declared.fault.{FaultKind.TheVariants.NotBuilt, Place.Place}
 use Rattle.lil_language.specs.declared.unit.{Section.Section, Constant.Constant, TypeName.TypeName, Variables.Variables, Heading.Heading, Decl.{Decl, TheOpen.Decl-F, TheFolds.{map-Decl, fold-Block, fold-roll-Decl, fold_out-Block}, TheViews.roll-Decl}, Block.{Block, out-Block}}
 use Rattle.lil_language.specs.declared.unit.Decl.TheVariants as d
 use Rattle.lil_language.specs.declared.unit.Decl.TheOpen as o
-use Rattle.lil_report.specs.{declared.report.Fault.Fault, Told.{row, noted, after, walk, Said}, Laws.{said_as, said_to, said_after, said_map, walk_map}}
-use Rattle.lil_scope.specs.{declared.env.Env.Env, Names.{inside, outside, with_block}}
+use Rattle.lil_report.specs.{declared.report.Fault.Fault, Told.{Row, row, noted, after, walk, Said}, Laws.{said_as, said_to, said_after, said_map, walk_map}}
+use Rattle.lil_declared.specs.declared.declared.RProc.{RProc}
+use Rattle.lil_scope.specs.{declared.{entering.Around.Around, env.{Env.Env, Wait.Wait}}, Names.{inside, entered, outside, around, back, with_block}}
 use Rattle.lil_check_value.specs.Looks.{said_not_built}
 use Rattle.lil_check_type.specs.{Walks.walk_steps, Made.Made, Records.no_parameters}
-use Rattle.lil_check_decl.specs.{declared.{decl.Around.Around, home.Home.Home}, Constants.constant_step, Headings.{Headed, section_step, home_at, named_means, heading_type, heading_means}, Decls.{Means, Sense, with_no_types, expecting, decl_step, around, back, type_step, variables_step, block_end, procedure_means, decl_layer, block_layer, decl_sense, decls_inside}}
+use Rattle.lil_check_decl.specs.{declared.home.Home.Home, Constants.constant_step, Headings.{Headed, section_step, home_at, named_means, heading_type, has_more, heading_means}, Decls.{Means, Sense, with_no_types, expecting, decl_step, type_step, variables_step, block_end, procedure_means, alone_means, decl_layer, block_layer, decl_sense, decls_inside}}
 
 block_means : Block → Means
 block_means = fold-Block Sense Means decl_layer block_layer
@@ -31,7 +33,7 @@ types_are p xs = ap decl_sense (sym (d.rolls-TypeIs p xs)) ∙ rolled (o.TypeIs 
 pub variables_are : (p : Place) (xs : List Variables) → decl_sense (d.VarsAre p xs) ≡ with_no_types (λ e. walk variables_step e xs)
 variables_are p xs = ap decl_sense (sym (d.rolls-VarsAre p xs)) ∙ rolled (o.VarsAre p xs)
 
-pub heading_is : (h : Heading) → decl_sense (d.ProcIs h None) ≡ with_no_types (λ e. heading_means e h)
+pub heading_is : (h : Heading) → decl_sense (d.ProcIs h None) ≡ with_no_types (λ e. alone_means e h)
 heading_is h = ap decl_sense (sym (d.rolls-ProcIs h None)) ∙ rolled (o.ProcIs h None)
 
 pub procedure_is : (h : Heading) (b : Block) → decl_sense (d.ProcIs h (Some b)) ≡ with_no_types (λ e. procedure_means e h (λ f. decls_inside (length f.waits) f (out-Block b).decls))
@@ -44,22 +46,28 @@ pub no_types_of : (h : Heading) (body : Option Block) → (decl_sense (d.ProcIs 
 no_types_of h None = ap (λ s. s.types) (heading_is h)
 no_types_of h (Some b) = ap (λ s. s.types) (procedure_is h b)
 
+-- the pointers that wait are the same in a procedure
+still_waiting : (n : ℕ) (e : Env) → (entered n e).waits ≡ e.waits
+still_waiting n e = by (slice_get e.procedures n)
+  where
+    by : (o : Option RProc) → (inside n o e).waits ≡ e.waits
+    by None = refl
+    by (Some q) = refl
+
 -- ---- what is said of a form, from what is said of its parts
 module _ (e : Env) {r : Option Fault} where
-  pub is_procedure : {of : Decl} (h : Heading) (b : Block) (ds : List Decl) {body : Option Block} {k n u : ℕ} {a : Around} {f g v w : Env} {s t : Option Fault} → of ≡ d.ProcIs h body → body ≡ Some b → ds ≡ (out-Block b).decls
-      → n ≡ length e.procedures → Said (heading_means e h) r f t → u ≡ length f.waits → k ≡ length e.scopes.blocks → a ≡ around f → g ≡ inside k (Some n) f → Said (decls_inside u g ds) t v s → w ≡ back a v → Said (decl_step e of) r w s
-  is_procedure h b ds {k = k} {n = n} {u = u} {a = a} {f = f} {g = g} {v = v} {w = w} {s = s} {t = t} is some these number l waiting num stands enters m leaves = said_as (ap (decl_step e) (is ∙ ap (d.ProcIs h) some) ∙ ap (λ s. s.means e) (procedure_is h b))
+  pub is_procedure : {of : Decl} (h : Heading) (b : Block) (ds : List Decl) {body : Option Block} {n u : ℕ} {a : Around} {f g v w : Env} {s t : Option Fault} → of ≡ d.ProcIs h body → body ≡ Some b → ds ≡ (out-Block b).decls
+      → n ≡ length e.procedures → Said (heading_means e h) r f t → u ≡ length f.waits → a ≡ around f → g ≡ entered n f → Said (decls_inside u g ds) t v s → w ≡ back a v → Said (decl_step e of) r w s
+  is_procedure h b ds {n = n} {u = u} {f = f} {g = g} {v = v} {s = s} {t = t} is some these number l waiting stands enters m leaves =
+      let now : u ≡ length (entered (length e.procedures) f).waits = waiting ∙ ap (λ (ws : List Wait). length ws) (sym (still_waiting (length e.procedures) f)) in
+      said_as (ap (decl_step e) (is ∙ ap (d.ProcIs h) some) ∙ ap (λ s. s.means e) (procedure_is h b))
       (said_after _ _ l (said_to (said_map (outside f)
-      (subst (λ ds. Said (decls_inside (length f.waits) (inside (length e.scopes.blocks) (Some (length e.procedures)) f) ds) t v s) these
-      (subst (λ k. Said (decls_inside (length f.waits) (inside k (Some (length e.procedures)) f) ds) t v s) num
-      (subst (λ n. Said (decls_inside (length f.waits) (inside k (Some n) f) ds) t v s) number
-      (subst (λ g. Said (decls_inside (length f.waits) g ds) t v s) enters
-      (subst (λ u. Said (decls_inside u g ds) t v s) waiting m))))))
+      (subst (λ (z : Env × List Row). Said z t v s) (λ j. decls_inside (now j) ((enters ∙ ap (λ (n : ℕ). entered n f) number) j) (these j)) m))
       (leaves ∙ ap (λ a. back a v) stands)))
 
-  pub is_heading : (h : Heading) (k : ℕ) (ss : List Section) {b : Env} {home : Home} {q : Headed} {m : Made} {f : Env} {a s t u : Option Fault} → a ≡ noted r (row true h.place NotBuilt) → k ≡ length e.scopes.blocks → b ≡ with_block e → home ≡ home_at b k → ss ≡ h.sections
+  pub is_heading : (h : Heading) (more : Bool) (k : ℕ) (ss : List Section) {b : Env} {home : Home} {q : Headed} {m : Made} {f : Env} {a s t u : Option Fault} → more ≡ has_more h → a ≡ noted r (row more h.place NotBuilt) → k ≡ length e.scopes.blocks → b ≡ with_block e → home ≡ home_at b k → ss ≡ h.sections
       → Said {A = Headed} (walk (section_step home) (b, no_parameters) ss) a q t → Said (heading_type q h) t m u → Said (named_means k h.name m) u f s → Said (heading_means e h) r f s
-  is_heading h k ss {b = b} {home = home} {q = q} {m = m} {f = f} {a = a} {s = s} {t = t} {u = u} note num new is these l n p = said_not_built h.place note (said_after _ _
+  is_heading h more k ss {b = b} {home = home} {q = q} {m = m} {f = f} {a = a} {s = s} {t = t} {u = u} has note num new is these l n p = said_not_built (has_more h) h.place (note ∙ ap (λ (b : Bool). noted r (row b h.place NotBuilt)) has) (said_after _ _
       (subst (λ k. Said {A = Headed} (walk (section_step (home_at e k)) (with_block e, no_parameters) h.sections) a q t) num
       (subst (λ b. Said {A = Headed} (walk (section_step (home_at b k)) (b, no_parameters) h.sections) a q t) new
       (subst (λ home. Said {A = Headed} (walk (section_step home) (b, no_parameters) h.sections) a q t) is

@@ -1,16 +1,17 @@
 -- What declarations mean: what is declared behind them, and the tests of their nodes.
-use Rattle.std.specs.Prelude.{ℕ, length, take, drop, List, [], ◌∷◌, map, Option, Some, None}
+use Rattle.std.specs.Prelude.{ℕ, length, take, drop, true, List, [], ◌∷◌, map, Option, Some, None}
+use Rattle.lil_base.specs.declared.fault.FaultKind.TheVariants.{NotBuilt}
 use Rattle.lil_text.specs.declared.tree.{Ident.Ident, Qualident.Qualident}
 use Rattle.lil_language.specs.declared.unit.{Sort.Sort, TypeName.TypeName, Variables.Variables, Heading.Heading, Decl.{Decl, TheOpen.{Decl-F, Block-F}, TheFolds.fold-Decl}}
 use Rattle.lil_language.specs.declared.unit.Decl.TheOpen as d
 use Rattle.lil_types.specs.declared.table.TypeForm.TheVariants as form
 use Rattle.lil_types.specs.Types.{aimed}
-use Rattle.lil_report.specs.Told.{Row, after, walk}
-use Rattle.lil_scope.specs.{declared.{thing.Thing.Thing, env.{Env.Env, Wait.Wait}}, Names.{bind, and_name, inside, outside}}
+use Rattle.lil_report.specs.Told.{Row, row, after, walk}
+use Rattle.lil_scope.specs.{declared.{thing.Thing.Thing, env.{Env.Env, Wait.Wait}}, Names.{bind, and_name, entered, outside}}
 use Rattle.lil_scope.specs.declared.thing.Thing.TheVariants as t
 use Rattle.lil_check_value.specs.Looks.{type_named, not_built}
 use Rattle.lil_check_type.specs.{Made.{Made, with_types, type_node}, Sorts.sort_means}
-use Rattle.lil_check_decl.specs.{declared.decl.Around.Around, Constants.constant_step, Headings.{here, variable_step, heading_means}}
+use Rattle.lil_check_decl.specs.{Constants.constant_step, Headings.{here, variable_step, heading_means}}
 
 -- ---- types. 90 NotBuilt, at the name of one without a form: it is opaque
 abbrev pub type_thing : Option ℕ → Thing
@@ -19,7 +20,7 @@ type_thing None = t.Broken
 
 abbrev pub form_means : Env → Ident → Option Sort → Made × List Row
 form_means e i (Some x) = sort_means e x
-form_means e i None = not_built i.place (type_node e i.place (form.Opaque None))
+form_means e i None = not_built true i.place (type_node e i.place (form.Opaque None))
 
 -- a type, whose name is bound behind it
 abbrev pub type_step : Env → TypeName → Env × List Row
@@ -49,18 +50,15 @@ block_end n e = walk wait_step (settled n e) (drop n e.waits)
 
 -- ---- procedures: what is declared inside is seen there
 abbrev pub procedure_means : Env → Heading → (Env → Env × List Row) → Env × List Row
-procedure_means e h body = after (heading_means e h) (λ g. after (body (inside (length e.scopes.blocks) (Some (length e.procedures)) g)) (λ w. (outside g w, [])))
+procedure_means e h body = after (heading_means e h) (λ g. after (body (entered (length e.procedures) g)) (λ w. (outside g w, [])))
 
--- what stands around a block, and the block at hand again
-abbrev pub around : Env → Around
-around e = record { outer = e.scopes.outer; inner = e.scopes.inner; coming = e.coming; withs = e.withs; procedure = e.procedure }
-
-abbrev pub back : Around → Env → Env
-back a f = record f { scopes = record f.scopes { outer = a.outer; inner = a.inner }; coming = a.coming; withs = a.withs; procedure = a.procedure }
+-- 90 NotBuilt: a heading alone
+abbrev pub alone_means : Env → Heading → Env × List Row
+alone_means e h = after (heading_means e h) (λ f. (f, row true h.place NotBuilt ∷ []))
 
 abbrev pub routine_means : Env → Heading → Option (Env → Env × List Row) → Env × List Row
 routine_means e h (Some body) = procedure_means e h body
-routine_means e h None = heading_means e h
+routine_means e h None = alone_means e h
 
 -- ---- declarations: what one means, and the types that it declares
 abbrev pub Means : Type 0

@@ -1,11 +1,12 @@
 -- Variables and parameters, and the headings of procedures.
-use Rattle.std.specs.Prelude.{ℕ, ◌+◌, nat_le, length, Bool, true, false, List, [], ◌∷◌, ◌++◌, Option, Some, None}
-use Rattle.lil_base.specs.declared.fault.FaultKind.TheVariants.{TooManyProcs}
+use Rattle.std.specs.Prelude.{ℕ, ◌+◌, nat_le, length, is_some, not, ◌||◌, Bool, true, false, List, [], ◌∷◌, ◌++◌, Option, Some, None}
+use Rattle.lil_base.specs.declared.fault.FaultKind.TheVariants.{TooManyProcs, NotBuilt}
 use Rattle.lil_text.specs.declared.tree.Ident.{Ident}
 use Rattle.lil_language.specs.declared.unit.{Section.Section, Heading.Heading}
 use Rattle.lil_declared.specs.declared.declared.Mode.{Mode, TheVariants.{Plain, Value, Place, OpenValue, OpenPlace}}
+use Rattle.lil_declared.specs.declared.declared.RProc.{RProc}
 use Rattle.lil_report.specs.Told.{Row, row, after, walk}
-use Rattle.lil_scope.specs.{declared.{thing.Thing.Thing, env.Env.Env}, Names.{bind, bind_at, with_block, level}}
+use Rattle.lil_scope.specs.{declared.{thing.Thing.Thing, env.Env.Env}, Names.{bind, bind_at, with_block, level, visible, chain}}
 use Rattle.lil_scope.specs.declared.thing.Thing.TheVariants as t
 use Rattle.lil_check_value.specs.Looks.{type_named, not_built}
 use Rattle.lil_check_type.specs.{declared.routines.Parameters.Parameters, Made.{Made, form_node}, Records.{sort_or, no_parameters, with_parameter, result_means, procedure_form}}
@@ -16,12 +17,12 @@ abbrev pub variable_thing : Home → Option ℕ → Env → Thing
 variable_thing h (Some n) e = t.Variable (record { number = length e.variables; level = h.level; sort = n; mode = h.mode })
 variable_thing h None e = t.Broken
 
--- one whose type has a fault has a number too
+-- one whose type has a fault has a number too. 90 NotBuilt: it belongs to a procedure
 abbrev pub with_variable : Home → Option ℕ → List ℕ → Env → Env
 with_variable h o name e = record e { variables = e.variables ++ record { name = name; sort = sort_or o; mode = h.mode; owner = h.owner } ∷ [] }
 
 abbrev pub variable_step : Home → Option ℕ → Env → Ident → Env × List Row
-variable_step h o e i = after (bind_at h.block e i (variable_thing h o e)) (λ f. (with_variable h o i.name f, []))
+variable_step h o e i = after (bind_at h.block e i (variable_thing h o e)) (λ f. (with_variable h o i.name f, row (is_some h.owner) i.place NotBuilt ∷ []))
 
 -- the block at hand as home of its variables
 abbrev pub here : Env → Home
@@ -60,15 +61,18 @@ abbrev pub procedure_sort : Option ℕ → ℕ
 procedure_sort (Some n) = n
 procedure_sort None = 5
 
-abbrev pub with_procedure : List ℕ → Option ℕ → Env → Env
-with_procedure name o e = record e { procedures = e.procedures ++ record { name = name; outer = e.procedure; sort = procedure_sort o } ∷ [] }
+abbrev pub procedure_at : List ℕ → ℕ → Option ℕ → Env → RProc
+procedure_at name block o e = record { name = name; block = block; outer = visible e; around = chain e; sort = procedure_sort o }
+
+abbrev pub with_procedure : List ℕ → ℕ → Option ℕ → Env → Env
+with_procedure name block o e = record e { procedures = e.procedures ++ procedure_at name block o e ∷ [] }
 
 -- 62 TooManyProcs, at the name of a procedure before which 250 have headings
-unfoldable pub numbered_node : Ident → Option ℕ → Env → Env × List Row
-numbered_node i o e = (with_procedure i.name o e, row (nat_le 250 (length e.procedures)) i.place TooManyProcs ∷ [])
+unfoldable pub numbered_node : Ident → ℕ → Option ℕ → Env → Env × List Row
+numbered_node i block o e = (with_procedure i.name block o e, row (nat_le 250 (length e.procedures)) i.place TooManyProcs ∷ [])
 
 abbrev pub named_means : ℕ → Ident → Made → Env × List Row
-named_means block i m = after (bind m.0 i (procedure_thing block m.1 m.0)) (numbered_node i m.1)
+named_means block i m = after (bind m.0 i (procedure_thing block m.1 m.0)) (numbered_node i block m.1)
 
 -- a heading stands in the block around its procedure, and its name is bound there behind it
 abbrev pub sections_mean : Env → Heading → Headed × List Row
@@ -77,6 +81,13 @@ sections_mean e h = walk (section_step (home_at e (length e.scopes.blocks))) (wi
 abbrev pub heading_type : Headed → Heading → Made × List Row
 heading_type q h = after (result_means q.0 h.result) (λ n. form_node q.0 h.place (procedure_form q.1 n))
 
--- 90 NotBuilt
+abbrev pub is_empty : {A : Type 0} → List A → Bool
+is_empty [] = true
+is_empty (x ∷ xs) = false
+
+-- 90 NotBuilt: it has parameters, or a result
+abbrev pub has_more : Heading → Bool
+has_more h = not (is_empty h.sections) || is_some h.result
+
 abbrev pub heading_means : Env → Heading → Env × List Row
-heading_means e h = not_built h.place (after (sections_mean e h) (λ q. after (heading_type q h) (named_means (length e.scopes.blocks) h.name)))
+heading_means e h = not_built (has_more h) h.place (after (sections_mean e h) (λ q. after (heading_type q h) (named_means (length e.scopes.blocks) h.name)))

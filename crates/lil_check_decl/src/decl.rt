@@ -1,6 +1,5 @@
-ghost use Rattle.std.specs.Prelude.{◌≡◌, [], map, Some, IfOk};
+ghost use Rattle.std.specs.Prelude.{◌≡◌, [], map, IfOk};
 ghost use Rattle.lil_report.specs.Told.{Said, walk};
-ghost use Rattle.lil_scope.specs.Names.{inside};
 ghost use Rattle.lil_check_decl.specs.Decls as spec;
 
 use crate::constants::constants;
@@ -10,7 +9,7 @@ use lil_check_type::{add_type, sort};
 use lil_check_value::type_named;
 use lil_language::{Decl, Sort, TypeName, Variables};
 use lil_report::Report;
-use lil_scope::{Coming, Env, Thing, Wait, Withs, bind};
+use lil_scope::{Coming, Env, Thing, Wait, bind, enter, leave};
 use lil_text::{Ident, Qualident};
 use lil_types::{TypeForm, TypeId};
 use std::alloc::Global;
@@ -179,49 +178,6 @@ fn expect(alloc: Global, env: &mut Env, of: &[Decl]) -> Result<(), Memory>
     Ok(())
 }
 
-/// What stands around a block.
-#[derive(Drop)]
-pub struct Around {
-    outer: Items<usize>,
-    inner: usize,
-    coming: Coming,
-    withs: Withs,
-    procedure: Option<usize>,
-}
-
-/// Enters a block.
-fn enter(alloc: Global, env: &mut Env, block: usize, procedure: usize) -> Result<Around, Memory>
-    ensures around { IfOk result (λ a. a ≡ spec.around env.old) }
-    ensures inside { IfOk result (λ a. env.new ≡ inside block (Some procedure) env.old) }
-{
-    let outer = Items::from_slice(alloc, env.scopes.outer.as_slice())?;
-    let inner = env.scopes.inner;
-    env.scopes.outer.push(inner)?;
-    env.scopes.inner = block;
-    let coming = std::mem::replace(&mut env.coming, Coming::new(alloc));
-    let withs = std::mem::replace(&mut env.withs, Withs::new(alloc));
-    let around = env.procedure;
-    env.procedure = Some(procedure);
-    Ok(Around {
-        outer,
-        inner,
-        coming,
-        withs,
-        procedure: around,
-    })
-}
-
-/// Leaves a block.
-fn leave(env: &mut Env, around: Around)
-    ensures { env.new ≡ spec.back around env.old }
-{
-    env.scopes.outer = around.outer;
-    env.scopes.inner = around.inner;
-    env.coming = around.coming;
-    env.withs = around.withs;
-    env.procedure = around.procedure;
-}
-
 /// Declarations of one kind, or a procedure. One of a definition has no block.
 #[cycle(declarations)]
 #[tactic(auto, using(crate::proofs::Forms::decl_steps), unfolding(lil_report::specs::Told::after, lil_report::specs::Told::tell))]
@@ -234,16 +190,19 @@ fn decl(alloc: Global, env: &mut Env, report: &mut Report, of: &Decl) -> Result<
         Decl::VarsAre(_, xs) => all_variables(alloc, env, report, xs.as_slice()),
         Decl::ProcIs(head, body) => {
             let number = env.procedures.len();
-            let block = heading(alloc, env, report, head)?;
+            heading(alloc, env, report, head)?;
             match body {
                 Some(body) => {
                     let waiting = env.waits.len();
-                    let around = enter(alloc, env, block, number)?;
+                    let around = enter(alloc, env, number)?;
                     inside_block(alloc, env, report, waiting, &body.decls)?;
                     leave(env, around);
                     Ok(())
                 }
-                None => Ok(()),
+                None => {
+                    report.note(true, head.place, FaultKind::NotBuilt);
+                    Ok(())
+                }
             }
         }
     }

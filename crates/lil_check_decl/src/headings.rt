@@ -11,7 +11,7 @@ use lil_check_value::type_named;
 use lil_declared::{Mode, RProc, RVar};
 use lil_language::{Heading, Section};
 use lil_report::Report;
-use lil_scope::{Env, Routine, Thing, Variable, bind, bind_at};
+use lil_scope::{Env, Routine, Thing, Variable, bind, bind_at, chain, visible};
 use lil_text::Ident;
 use lil_types::TypeId;
 use std::alloc::Global;
@@ -61,6 +61,7 @@ fn variable(
 {
     let thing = variable_thing(home, sort, env);
     bind_at(alloc, env, report, home.block, of, thing)?;
+    report.note(home.owner.is_some(), of.place, FaultKind::NotBuilt);
     add_variable(alloc, env, home, sort, of)
 }
 
@@ -246,16 +247,20 @@ fn procedure_sort(sort: Option<TypeId>) -> TypeId
 fn add_procedure(
     alloc: Global,
     env: &mut Env,
+    block: usize,
     sort: Option<TypeId>,
     of: &Ident,
 ) -> Result<(), Memory>
-    ensures { IfOk result (λ o. env.new ≡ spec.with_procedure of.now.name sort env.old) }
+    ensures { IfOk result (λ o. env.new ≡ spec.with_procedure of.now.name block sort env.old) }
 {
     let name = of.name.copy(alloc)?;
-    let outer = env.procedure;
+    let outer = visible(alloc, env)?;
+    let around = chain(alloc, env)?;
     env.procedures.push(RProc {
         name,
+        block,
         outer,
+        around,
         sort: procedure_sort(sort),
     })
 }
@@ -266,14 +271,15 @@ fn numbered(
     alloc: Global,
     env: &mut Env,
     report: &mut Report,
+    block: usize,
     sort: Option<TypeId>,
     of: &Ident,
 ) -> Result<(), Memory>
-    ensures { IfOk result (λ o. Said (spec.numbered_node of.now sort env.old) report.old env.new report.new) }
+    ensures { IfOk result (λ o. Said (spec.numbered_node of.now block sort env.old) report.old env.new report.new) }
 {
     let many = env.procedures.len() >= 250;
     report.note(many, of.place, FaultKind::TooManyProcs);
-    add_procedure(alloc, env, sort, of)
+    add_procedure(alloc, env, block, sort, of)
 }
 
 /// The name of a procedure, behind its heading.
@@ -289,25 +295,29 @@ fn named(
 {
     let thing = procedure_thing(block, sort, env);
     bind(alloc, env, report, of, thing)?;
-    numbered(alloc, env, report, sort, of)
+    numbered(alloc, env, report, block, sort, of)
 }
 
-/// The heading of a procedure: its block has the number that is returned.
+fn has_more(of: &Heading) -> bool
+    ensures { result ≡ spec.has_more of.now }
+{
+    !of.sections.is_empty() || of.result.is_some()
+}
+
+/// The heading of a procedure.
 #[tactic(auto, using(lil_check_type::specs::Walks::walk_steps), unfolding(lil_check_value::specs::Looks::not_built, lil_report::specs::Told::after, lil_report::specs::Told::tell))]
 pub fn heading(
     alloc: Global,
     env: &mut Env,
     report: &mut Report,
     of: &Heading,
-) -> Result<usize, Memory>
-    ensures said { IfOk result (λ n. Said (spec.heading_means env.old of.now) report.old env.new report.new) }
-    ensures number { IfOk result (λ n. n ≡ length env.old.scopes.blocks) }
+) -> Result<(), Memory>
+    ensures { IfOk result (λ o. Said (spec.heading_means env.old of.now) report.old env.new report.new) }
 {
-    report.note(true, of.place, FaultKind::NotBuilt);
+    report.note(has_more(of), of.place, FaultKind::NotBuilt);
     let block = begin(alloc, env)?;
     let home = home_at(env, block);
     let parameters = sections(alloc, env, report, home, of.sections.as_slice())?;
     let sort = heading_type(env, report, parameters, of)?;
-    named(alloc, env, report, block, &of.name, sort)?;
-    Ok(block)
+    named(alloc, env, report, block, &of.name, sort)
 }

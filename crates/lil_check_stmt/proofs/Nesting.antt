@@ -1,65 +1,64 @@
--- What bodies mean, from what declarations and blocks mean.
-use Rattle.std.proofs.Common.{◌≡◌, false, List, [], Option, Some, None, refl, subst, sym, ap, ◌∙◌}
-use Rattle.lil_base.specs.declared.fault.Place.{Place}
-use Rattle.lil_language.specs.declared.{tree.Stmt.Stmt, unit.{Block.Block, Constant.Constant, Heading.Heading, TypeName.TypeName, Variables.Variables, Decl.{Decl, TheOpen.Decl-F, TheFolds.{map-Decl, fold-Block, fold-roll-Decl, fold-roll-Block}, TheViews.roll-Decl}}}
+-- What bodies mean, from what declarations and their statements mean.
+use Rattle.std.proofs.Common.{◌≡◌, ℕ, false, List, [], ◌∷◌, ◌++◌, ◌+◌, ◌<◌, ◌≤◌, length, take, get_or, Option, Some, None, refl, subst, sym, ap, ◌∙◌, append_assoc, append-nil}
+use Rattle.std.proofs.lemmas.List.{take_more, take_all}
+use Rattle.std.specs.Prelude.{slice_get}
+use Rattle.lil_language.specs.declared.{tree.Stmt.Stmt, unit.{Block.Block, Heading.Heading, Decl.Decl}}
 use Rattle.lil_language.specs.declared.unit.Decl.TheVariants as d
-use Rattle.lil_language.specs.declared.unit.Decl.TheOpen as layer
 use Rattle.lil_resolved.specs.declared.resolved.RStmt.{RStmt}
-use Rattle.lil_report.specs.{declared.report.Fault.Fault, Told.{after, pure, walk, Said}, Laws.{said_as, said_to, said_value, said_after, said_map, walk_map}}
-use Rattle.lil_scope.specs.{declared.{env.Env.Env, thing.{Routine.Routine, Thing.Thing}}, Names.{find, inside}}
-use Rattle.lil_check_stmt.specs.{declared.stmt.Stated.Stated, Statements.statements_mean, Stmts.{Bodies, DeclMeaning, BlockMeaning, stated, with_body, routine_of, body_means, decl_layer, list_step, block_layer, decl_means, decl_step, block_means, bodies_mean}}
+use Rattle.lil_declared.specs.declared.declared.RProc.{RProc}
+use Rattle.lil_report.specs.{declared.report.Fault.Fault, Told.{after, pure, walk, Said}, Laws.{said_as, said_to, said_value, said_after, said_map, said_joined, said_one}}
+use Rattle.lil_scope.specs.{declared.{entering.Around.Around, env.Env.Env}, Names.{inside, entered, around, back}}
+use Rattle.lil_check_stmt.specs.{declared.stmt.Stated.Stated, Statements.statements_mean, Texts.{Texts, texts_in, texts, no_block, with_block}, Stmts.{Bodies, text_means, and_body, body_step, stated, bodies_mean}}
 
-block_meaning : Block → BlockMeaning
-block_meaning = fold-Block DeclMeaning BlockMeaning decl_layer block_layer
+-- ---- one declaration more
+texts_one : (xs : List Decl) (x : Decl) → texts (xs ++ x ∷ []) ≡ texts xs ++ texts_in x
+texts_one [] x = append-nil (texts_in x)
+texts_one (y ∷ ys) x = ap (λ (ts : Texts). texts_in y ++ ts) (texts_one ys x) ∙ sym (append_assoc (texts_in y) (texts ys) (texts_in x))
 
-rolled : (x : Decl-F Decl Block) → decl_means (roll-Decl x) ≡ decl_layer (map-Decl Decl Block DeclMeaning BlockMeaning decl_means block_meaning x)
-unfolding decl_means block_meaning
-rolled = fold-roll-Decl DeclMeaning BlockMeaning decl_layer block_layer
+pub texts_next : (xs : List Decl) (i : ℕ) (x : Decl) → i < length xs → x ≡ get_or xs i x → texts (take (i + 1) xs) ≡ texts (take i xs) ++ texts_in x
+texts_next xs i x inside is = ap texts (take_more xs i x inside ∙ ap (λ (z : Decl). take i xs ++ z ∷ []) (sym is)) ∙ texts_one (take i xs) x
 
-block_is : (b : Block) (e : Env) (out : Bodies) → block_meaning b e out ≡ block_means e out b.decls b.body
-unfolding decl_means block_meaning
-block_is b e out = ap (λ (m : BlockMeaning). m e out) (fold-roll-Block DeclMeaning BlockMeaning decl_layer block_layer (record { decls = b.decls; body = b.body; end = b.end }))
-    ∙ (λ j. after (walk_map (list_step e) decl_means out b.decls j) (λ bodies. after (statements_mean e false b.body) (λ ss. pure (stated bodies ss))))
+-- ---- what is said of them
+-- a block left again stands as before
+pub left_again : (e : Env) (n : ℕ) → back (around e) (entered n e) ≡ e
+left_again e n = by (slice_get e.procedures n)
+  where
+    by : (o : Option RProc) → back (around e) (inside n o e) ≡ e
+    by None = refl
+    by (Some q) = refl
 
-module _ (e : Env) (out : Bodies) {of : Decl} (h : Heading) (o : Option Block) (b : Block) (is : of ≡ d.ProcIs h o) (some : o ≡ Some b) where
-  body_is : (n : Option Routine) → n ≡ routine_of (find e.scopes h.name.name) → decl_step e out of ≡ body_means n (λ e out. block_means e out b.decls b.body) e out
-  body_is n num = ap (decl_step e out) (is ∙ ap (d.ProcIs h) some) ∙ ap (λ (m : DeclMeaning). m e out) (ap decl_means (sym (d.rolls-ProcIs h (Some b))) ∙ rolled (layer.ProcIs h (Some b)))
-      ∙ (λ j. body_means (sym num j) (λ e out. block_is b e out j) e out)
+module _ (e : Env) (out : Bodies) {r : Option Fault} where
+  pub is_empty : (of : Decl) → texts_in of ≡ [] → Said (walk (body_step e) out (texts_in of)) r out r
+  is_empty of none = said_as (ap (walk (body_step e) out) none) (said_value refl)
 
-module _ (e : Env) (out : Bodies) {of : Decl} {r : Option Fault} where
-  pub no_constant : (p : Place) (xs : List Constant) → of ≡ d.ConstIs p xs → Said (decl_step e out of) r out r
-  no_constant p xs is = said_as (ap (decl_step e out) is ∙ ap (λ (m : DeclMeaning). m e out) (ap decl_means (sym (d.rolls-ConstIs p xs)) ∙ rolled (layer.ConstIs p xs))) (said_value refl)
+  pub is_missing : (of : Decl) (h : Heading) (o : Option Block) {bs : Bodies} → of ≡ d.ProcIs h o → o ≡ None → bs ≡ and_body out None → Said (walk (body_step e) out (texts_in of)) r bs r
+  unfolding after
+  is_missing of h o is none more = said_as (ap (λ (x : Decl). walk (body_step e) out (texts_in x)) (is ∙ ap (d.ProcIs h) none) ∙ ap (walk (body_step e) out) (no_block h)) (said_one (body_step e) None out (said_value more))
 
-  pub no_type : (p : Place) (xs : List TypeName) → of ≡ d.TypeIs p xs → Said (decl_step e out of) r out r
-  no_type p xs is = said_as (ap (decl_step e out) is ∙ ap (λ (m : DeclMeaning). m e out) (ap decl_means (sym (d.rolls-TypeIs p xs)) ∙ rolled (layer.TypeIs p xs))) (said_value refl)
+  pub is_block : (of : Decl) (h : Heading) (o : Option Block) (b : Block) {f : Env} {more bs : Bodies} {s t : Option Fault} → of ≡ d.ProcIs h o → o ≡ Some b → Said (body_step e out (Some b.body)) r more s → f ≡ e
+      → Said (walk (body_step f) more (texts b.decls)) s bs t → Said (walk (body_step e) out (texts_in of)) r bs t
+  is_block of h o b {more = more} {bs = bs} {s = s} {t = t} is some own same rest =
+      said_as (ap (λ (x : Decl). walk (body_step e) out (texts_in x)) (is ∙ ap (d.ProcIs h) some) ∙ ap (walk (body_step e) out) (with_block h b))
+      (said_after _ _ own (subst (λ (f : Env). Said (walk (body_step f) more (texts b.decls)) s bs t) same rest))
 
-  pub no_variables : (p : Place) (xs : List Variables) → of ≡ d.VarsAre p xs → Said (decl_step e out of) r out r
-  no_variables p xs is = said_as (ap (decl_step e out) is ∙ ap (λ (m : DeclMeaning). m e out) (ap decl_means (sym (d.rolls-VarsAre p xs)) ∙ rolled (layer.VarsAre p xs))) (said_value refl)
+  pub is_next : (xs : List Decl) (i : ℕ) (x : Decl) {f : Env} {more bs : Bodies} {s t : Option Fault} → i < length xs → x ≡ get_or xs i x → Said (walk (body_step e) out (texts (take i xs))) r more s → f ≡ e
+      → Said (walk (body_step f) more (texts_in x)) s bs t → Said (walk (body_step e) out (texts (take (i + 1) xs))) r bs t
+  is_next xs i x {more = more} {bs = bs} {s = s} {t = t} inside is so_far same next =
+      said_as (ap (walk (body_step e) out) (texts_next xs i x inside is))
+      (said_joined (body_step e) (texts_in x) out (texts (take i xs)) so_far (subst (λ (f : Env). Said (walk (body_step f) more (texts_in x)) s bs t) same next))
 
-  pub no_block : (h : Heading) (b : Option Block) → of ≡ d.ProcIs h b → b ≡ None → Said (decl_step e out of) r out r
-  no_block h b is none = said_as (ap (decl_step e out) (is ∙ ap (d.ProcIs h) none) ∙ ap (λ (m : DeclMeaning). m e out) (ap decl_means (sym (d.rolls-ProcIs h None)) ∙ rolled (layer.ProcIs h None))) (said_value refl)
+  pub is_all : (xs : List Decl) (i : ℕ) {bs : Bodies} {s : Option Fault} → length xs ≤ i → Said (walk (body_step e) out (texts (take i xs))) r bs s → Said (walk (body_step e) out (texts xs)) r bs s
+  is_all xs i {bs = bs} {s = s} long h = subst (λ (z : List Decl). Said (walk (body_step e) out (texts z)) r bs s) (take_all i xs long) h
 
-  module _ (h : Heading) (o : Option Block) (b : Block) (is : of ≡ d.ProcIs h o) (some : o ≡ Some b) where
-    pub is_body : {t : Option Thing} {n : Option Routine} (k : Routine) {bs : Bodies} {s : Option Fault} → t ≡ find e.scopes h.name.name → n ≡ routine_of t → n ≡ Some k
-        → Said (body_means (Some k) (λ e out. block_means e out b.decls b.body) e out) r bs s → Said (decl_step e out of) r bs s
-    is_body k found num known m = said_as (body_is e out h o b is some (Some k) (sym known ∙ num ∙ ap routine_of found)) m
+-- the body of the next procedure
+pub is_body : (e : Env) (out : Bodies) (ss : List Stmt) {n : ℕ} {g : Env} {own : Option (List RStmt)} {bs : Bodies} {r s : Option Fault} → n ≡ length out → g ≡ entered n e → Said (statements_mean g false ss) r own s → bs ≡ and_body out own
+    → Said (body_step e out (Some ss)) r bs s
+is_body e out ss {own = own} {r = r} {s = s} next enters h more =
+    said_to (said_map (and_body out) (subst (λ (g : Env). Said (statements_mean g false ss) r own s) (enters ∙ ap (λ (n : ℕ). entered n e) next) h)) more
 
-    pub no_routine : {t : Option Thing} {n : Option Routine} → t ≡ find e.scopes h.name.name → n ≡ routine_of t → n ≡ None → Said (decl_step e out of) r out r
-    no_routine found num none = said_as (body_is e out h o b is some None (sym none ∙ num ∙ ap routine_of found)) (said_value refl)
-
--- a procedure whose heading was found
-pub is_inside : (e : Env) (out : Bodies) (b : Block) (k : Routine) {g : Env} (ds : List Decl) (ss : List Stmt) {w : Stated} {bs : Bodies} {r s : Option Fault}
-    → g ≡ inside k.block (Some k.number) e → ds ≡ b.decls → ss ≡ b.body → Said (block_means g out ds ss) r w s → bs ≡ with_body w → Said (body_means (Some k) (λ e out. block_means e out b.decls b.body) e out) r bs s
-is_inside e out b k ds ss {w = w} {r = r} {s = s} enters these those m value = said_to (said_map with_body (subst (λ z. Said z r w s) (λ j. block_means (enters j) out (these j) (those j)) m)) value
-
--- one more, where nothing around has changed
-pub is_decl : {e f : Env} (out : Bodies) (of : Decl) {bs : Bodies} {r s : Option Fault} → f ≡ e → Said (decl_step f out of) r bs s → Said (decl_step e out of) r bs s
-is_decl out of {bs = bs} {r = r} {s = s} same h = subst (λ f. Said (decl_step f out of) r bs s) same h
-
-pub is_block : (e : Env) (out : Bodies) (ds : List Decl) (ss : List Stmt) {f : Env} {bs : Bodies} {body : Option (List RStmt)} {w : Stated} {r s t : Option Fault} → f ≡ e → Said (walk (decl_step e) out ds) r bs t
-    → Said (statements_mean f false ss) t body s → w ≡ stated bs body → Said (block_means e out ds ss) r w s
-is_block e out ds ss {bs = bs} {body = body} {s = s} {t = t} same h k value = said_after _ _ h (said_to (said_map (stated bs) (subst (λ f. Said (statements_mean f false ss) t body s) same k)) value)
-
-pub is_bodies : (e : Env) (out : Bodies) (ds given : List Decl) (ss those : List Stmt) {w : Stated} {r s : Option Fault} → out ≡ [] → given ≡ ds → those ≡ ss → Said (block_means e out given those) r w s → Said (bodies_mean e ds ss) r w s
+pub is_bodies : (e : Env) (ds given : List Decl) (ss those : List Stmt) {f : Env} {own : Option (List RStmt)} {none bs : Bodies} {w : Stated} {r s t : Option Fault} → those ≡ ss → Said (statements_mean e false those) r own t → none ≡ [] → given ≡ ds → f ≡ e
+    → Said (walk (body_step f) none (texts given)) t bs s → w ≡ stated own bs → Said (bodies_mean e ds ss) r w s
 unfolding bodies_mean
-is_bodies e out ds given ss those {w = w} {r = r} {s = s} empty these these_too h = subst (λ z. Said z r w s) (λ j. block_means e (empty j) (these j) (these_too j)) h
+is_bodies e ds given ss those {own = own} {bs = bs} {r = r} {s = s} {t = t} these h empty these_too same k value =
+    said_after _ _ (subst (λ z. Said (statements_mean e false z) r own t) these h)
+    (said_to (said_map (stated own) (subst (λ z. Said z t bs s) (λ j. walk (body_step (same j)) (empty j) (texts (these_too j))) k)) value)

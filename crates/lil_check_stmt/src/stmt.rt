@@ -1,109 +1,49 @@
-ghost use Rattle.std.specs.Prelude.{◌≡◌, [], ◌∷◌, ◌++◌, IfOk, Some};
+ghost use Rattle.std.specs.Prelude.{◌≡◌, [], IfOk, Some};
 ghost use Rattle.lil_report.specs.Told.{Said, walk};
-ghost use Rattle.lil_scope.specs.Names.{inside};
 ghost use Rattle.lil_check_stmt.specs.Stmts as spec;
+ghost use Rattle.lil_check_stmt.specs.Texts.{texts, texts_in};
 
 use crate::statements::statements;
 use lil_base::{Items, Memory};
-use lil_language::{Block, Decl, Stmt};
+use lil_language::{Decl, Stmt};
 use lil_report::Report;
 use lil_resolved::RStmt;
-use lil_scope::{Coming, Env, Routine, Thing, Withs};
+use lil_scope::{Env, enter, leave};
 use std::alloc::Global;
 
-/// The statements of all procedures that a block declares, and its own, each where they have code.
+/// The statements of a module's procedures, in the order of their headings, and its own, each where they have code.
 #[derive(Drop)]
 pub struct Stated {
     pub procedures: Items<Option<Items<RStmt>>>,
     pub body: Option<Items<RStmt>>,
 }
 
-fn routine_of(of: Option<Thing>) -> Option<Routine>
-    ensures { result ≡ spec.routine_of of }
+fn and_body(
+    before: Items<Option<Items<RStmt>>>,
+    body: Option<Items<RStmt>>,
+) -> Result<Items<Option<Items<RStmt>>>, Memory>
+    ensures { IfOk result (λ bs. bs ≡ spec.and_body before body) }
 {
-    match of {
-        Some(Thing::Procedure(routine)) => Some(routine),
-        _ => None,
-    }
-}
-
-/// What stands around a block.
-#[derive(Drop)]
-struct Around {
-    outer: Items<usize>,
-    inner: usize,
-    coming: Coming,
-    withs: Withs,
-    procedure: Option<usize>,
-}
-
-/// Enters the block of a procedure.
-fn enter(alloc: Global, env: &mut Env, routine: Routine) -> Result<Around, Memory>
-    ensures around { IfOk result (λ a. spec.back a env.new ≡ env.old) }
-    ensures inside { IfOk result (λ a. env.new ≡ inside routine.block (Some routine.number) env.old) }
-{
-    let outer = Items::from_slice(alloc, env.scopes.outer.as_slice())?;
-    let inner = env.scopes.inner;
-    env.scopes.outer.push(inner)?;
-    env.scopes.inner = routine.block;
-    let coming = std::mem::replace(&mut env.coming, Coming::new(alloc));
-    let withs = std::mem::replace(&mut env.withs, Withs::new(alloc));
-    let procedure = env.procedure;
-    env.procedure = Some(routine.number);
-    Ok(Around {
-        outer,
-        inner,
-        coming,
-        withs,
-        procedure,
-    })
-}
-
-/// Leaves a block.
-fn leave(env: &mut Env, around: Around)
-    ensures { env.new ≡ spec.back around env.old }
-{
-    env.scopes.outer = around.outer;
-    env.scopes.inner = around.inner;
-    env.coming = around.coming;
-    env.withs = around.withs;
-    env.procedure = around.procedure;
-}
-
-fn with_body(of: Stated) -> Result<Items<Option<Items<RStmt>>>, Memory>
-    ensures { IfOk result (λ bs. bs ≡ spec.with_body of) }
-{
-    let Stated { procedures, body } = of;
-    let mut bodies = procedures;
+    let mut bodies = before;
     bodies.push(body)?;
     Ok(bodies)
 }
 
-/// The body of a procedure, behind those of the procedures in it.
-#[cycle(bodies)]
-fn procedure(
+/// The body of the procedure of the next number, behind those before it.
+fn body(
     alloc: Global,
     env: &mut Env,
     report: &mut Report,
     before: Items<Option<Items<RStmt>>>,
-    found: Routine,
-    inner: &Block,
+    of: &[Stmt],
 ) -> Result<Items<Option<Items<RStmt>>>, Memory>
-    ensures said { IfOk result (λ bs. Said (spec.body_means (Some found) (λ e out. spec.block_means e out inner.now.decls inner.now.body) env.old before) report.old bs report.new) }
+    ensures said { IfOk result (λ bs. Said (spec.body_step env.old before (Some of.now)) report.old bs report.new) }
     ensures same { IfOk result (λ bs. env.new ≡ env.old) }
 {
-    let around = enter(alloc, env, found)?;
-    let stated = block(
-        alloc,
-        env,
-        report,
-        before,
-        inner.decls.as_slice(),
-        inner.body.as_slice(),
-    )?;
+    let around = enter(alloc, env, before.len())?;
+    let own = statements(alloc, env, report, false, of)?;
     leave(env, around);
-    let bodies = with_body(stated)?;
-    Ok(bodies)
+    and_body(before, own)
 }
 
 /// The bodies in a declaration, behind those before it.
@@ -115,24 +55,18 @@ fn declaration(
     before: Items<Option<Items<RStmt>>>,
     of: &Decl,
 ) -> Result<Items<Option<Items<RStmt>>>, Memory>
-    ensures said { IfOk result (λ bs. Said (spec.decl_step env.old before of.now) report.old bs report.new) }
+    ensures said { IfOk result (λ bs. Said (walk (spec.body_step env.old) before (texts_in of.now)) report.old bs report.new) }
     ensures same { IfOk result (λ bs. env.new ≡ env.old) }
 {
     match of {
         Decl::ConstIs(_, _) => Ok(before),
         Decl::TypeIs(_, _) => Ok(before),
         Decl::VarsAre(_, _) => Ok(before),
-        Decl::ProcIs(heading, inner) => match inner {
-            None => Ok(before),
+        Decl::ProcIs(_, inner) => match inner {
+            None => and_body(before, None),
             Some(inner) => {
-                let routine = routine_of(env.scopes.find(&heading.name.name));
-                match routine {
-                    None => Ok(before),
-                    Some(found) => {
-                        let bodies = procedure(alloc, env, report, before, found, inner)?;
-                        Ok(bodies)
-                    }
-                }
+                let out = body(alloc, env, report, before, inner.body.as_slice())?;
+                declarations(alloc, env, report, out, inner.decls.as_slice())
             }
         },
     }
@@ -146,7 +80,7 @@ fn declarations(
     before: Items<Option<Items<RStmt>>>,
     of: &[Decl],
 ) -> Result<Items<Option<Items<RStmt>>>, Memory>
-    ensures said { IfOk result (λ bs. Said (walk (spec.decl_step env.old) before of.now) report.old bs report.new) }
+    ensures said { IfOk result (λ bs. Said (walk (spec.body_step env.old) before (texts of.now)) report.old bs report.new) }
     ensures same { IfOk result (λ bs. env.new ≡ env.old) }
 {
     let mut out = before;
@@ -157,25 +91,7 @@ fn declarations(
     Ok(out)
 }
 
-/// The bodies of a block's procedures, behind those before it, and its own statements.
-#[cycle(bodies)]
-fn block(
-    alloc: Global,
-    env: &mut Env,
-    report: &mut Report,
-    before: Items<Option<Items<RStmt>>>,
-    decls: &[Decl],
-    body: &[Stmt],
-) -> Result<Stated, Memory>
-    ensures said { IfOk result (λ b. Said (spec.block_means env.old before decls.now body.now) report.old b report.new) }
-    ensures same { IfOk result (λ b. env.new ≡ env.old) }
-{
-    let procedures = declarations(alloc, env, report, before, decls)?;
-    let body = statements(alloc, env, report, false, body)?;
-    Ok(Stated { procedures, body })
-}
-
-/// The statements of a block whose declarations are all known, and of the procedures in it. What is declared stays as it was.
+/// The statements of a module whose declarations are all known, and of its procedures. What is declared stays as it was.
 pub fn bodies(
     alloc: Global,
     env: &mut Env,
@@ -186,13 +102,7 @@ pub fn bodies(
     ensures said { IfOk result (λ b. Said (spec.bodies_mean env.old decls.now body.now) report.old b report.new) }
     ensures same { IfOk result (λ b. env.new ≡ env.old) }
 {
-    let stated = block(
-        alloc,
-        env,
-        report,
-        Items::new(alloc),
-        decls.as_slice(),
-        body.as_slice(),
-    )?;
-    Ok(stated)
+    let body = statements(alloc, env, report, false, body.as_slice())?;
+    let procedures = declarations(alloc, env, report, Items::new(alloc), decls.as_slice())?;
+    Ok(Stated { procedures, body })
 }

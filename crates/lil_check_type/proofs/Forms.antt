@@ -1,5 +1,5 @@
 -- What each form of type means, from what its parts mean.
-use Rattle.std.proofs.Common.{◌≡◌, ℕ, List, [], map, reverse, Option, Some, None, sym, ap, subst, ◌∙◌}
+use Rattle.std.proofs.Common.{true, ◌≡◌, ℕ, List, [], map, reverse, Option, Some, None, sym, ap, subst, ◌∙◌}
 use Rattle.lil_base.specs.declared.fault.Place.{Place}
 use Rattle.lil_text.specs.declared.tree.{Ident.Ident, Qualident.Qualident}
 use Rattle.lil_language.specs.declared.tree.Expr.{Expr}
@@ -54,7 +54,7 @@ set_is p x = ap sense (sym (v.rolls-SetOver p x)) ∙ sort_rolled (o.SetOver p x
 pub pointer_is : (p : Place) (y : Sort) → sense (v.PointerTo p y) ≡ record { name = None; means = λ e. pointer_means p (sense y).name (sense y).means e }
 pointer_is p y = ap sense (sym (v.rolls-PointerTo p y)) ∙ sort_rolled (o.PointerTo p y)
 
-pub procedure_is : (p : Place) (fs : List Formal) (q : Option Qualident) → sense (v.ProcedureOf p fs q) ≡ record { name = None; means = λ e. not_built p (procedure_means e p fs q) }
+pub procedure_is : (p : Place) (fs : List Formal) (q : Option Qualident) → sense (v.ProcedureOf p fs q) ≡ record { name = None; means = λ e. not_built true p (procedure_means e p fs q) }
 procedure_is p fs q = ap sense (sym (v.rolls-ProcedureOf p fs q)) ∙ sort_rolled (o.ProcedureOf p fs q)
 
 pub ruleset sort_steps = (walk_steps, variant_is, named_is, cases_are, scalar_is, array_is, record_is, set_is, pointer_is, procedure_is)

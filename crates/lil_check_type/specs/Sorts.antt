@@ -1,5 +1,5 @@
 -- What types mean: their numbers, what is declared behind them, and the tests of their nodes.
-use Rattle.std.specs.Prelude.{◌≡◌, ℕ, ◌==◌, ◌||◌, List, [], ◌∷◌, ◌++◌, reverse, Option, Some, None, if◌then◌else◌}
+use Rattle.std.specs.Prelude.{true, ◌≡◌, ℕ, ◌==◌, ◌||◌, List, [], ◌∷◌, ◌++◌, reverse, Option, Some, None, if◌then◌else◌}
 use Rattle.lil_base.specs.declared.fault.Place.{Place}
 use Rattle.lil_text.specs.declared.tree.{Ident.Ident, Qualident.Qualident}
 use Rattle.lil_language.specs.declared.unit.{Simple.Simple, Sort.Sort, FieldList.{FieldList, TheOpen.{FieldList-F, Sort-F, Variant-F}, TheFolds.{fold-FieldList, fold-Sort, fold-Variant, map-FieldList, map-Sort, map-Variant, fold-roll-FieldList, fold-roll-Sort, fold-roll-Variant}, TheViews.{roll-FieldList, roll-Sort}}, Variant.{Variant, roll-Variant}}
@@ -108,7 +108,7 @@ sort_layer (o.RecordOf p fs) = record { name = None; means = λ e. after (fields
 sort_layer (o.SetOver p x) = record { name = None; means = λ e. set_means e p x }
 sort_layer (o.PointerTo p y) = record { name = None; means = λ e. pointer_means p y.name y.means e }
 -- 90 NotBuilt
-sort_layer (o.ProcedureOf p fs q) = record { name = None; means = λ e. not_built p (procedure_means e p fs q) }
+sort_layer (o.ProcedureOf p fs q) = record { name = None; means = λ e. not_built true p (procedure_means e p fs q) }
 
 unfoldable pub sense : Sort → Sense
 sense = fold-Sort FieldSense Sense VariantSense field_layer sort_layer variant_layer

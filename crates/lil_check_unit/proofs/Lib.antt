@@ -1,4 +1,6 @@
 mod Limits
+mod Making
 mod Kept
+mod Procedures
 mod Right
 mod UnitFaults

@@ -1,29 +1,29 @@
 -- A unit in which no test finds a fault has a module, and it is sound.
-use Rattle.std.proofs.Common.{◌≡◌, ◌≤◌, ℕ, zero, suc, Bool, true, false, List, [], ◌∷◌, length, slice_get, sum_by, Option, Some, None, if◌then◌else◌, inl, inr, refl, sym, ap, subst, ◌∙◌, arith, true≢false}
-use Rattle.std.specs.Prelude.{◌||◌, ◌-◌, nat_lt, nat_le}
+use Rattle.std.proofs.Common.{◌≡◌, ◌≤◌, ℕ, zero, suc, ◌+◌, ◌<◌, Bool, true, false, List, [], ◌∷◌, length, map, slice_get, sum_by, Option, Some, None, if◌then◌else◌, inl, inr, refl, sym, ap, subst, ◌∙◌, arith, true≢false}
+use Rattle.std.specs.Prelude.{◌||◌, ◌&&◌, ◌-◌, nat_lt, nat_le}
 use Rattle.std.specs.List.{list_any}
 use Rattle.std.proofs.lemmas.{Bool.Decides.nat_tests, Option.{none-some, same_Some}}
 use Rattle.lil_types.specs.{Types.Table, declared.table.{TypeEntry.TypeEntry, TypeForm.{TypeForm, TheVariants.Enumeration}}}
 use Rattle.lil_report.specs.{declared.report.Fault.Fault, Least.{is_late, now_of, late_of, worse, Reports}, LeastLaws.reports_tell, Told.{Row, Stands, tell, after, walk}}
 use Rattle.lil_language.specs.declared.{unit.{Unit.Unit as Tree, Decl.Decl}, tree.Stmt.Stmt}
-use Rattle.lil_resolved.specs.{Kinds.{Shape, Scope, all_words, outermost}, Resolved.Resolved, Sound.IsSound, Views.statements_of, declared.resolved.RStmt.RStmt}
-use Rattle.lil_declared.specs.declared.declared.RVar.{RVar}
+use Rattle.lil_resolved.specs.{Kinds.{Shape, Scope, all_words, outermost, procedure_by}, Resolved.{Procedure, Resolved, around_of as procedure_around}, Sound.{IsSound, IsSoundBody}, Views.statements_of, declared.resolved.RStmt.RStmt}
+use Rattle.lil_declared.specs.declared.declared.{RProc.RProc, RVar.RVar}
 use Rattle.lil_shapes.specs.{ListLaws.AllFine, Pointers.targets, Shaping.variables_by}
 use Rattle.lil_shapes.specs.Shaping as shaping
 use Rattle.lil_forms.specs.{Scopes.outside, StatementSound.{AllSound, body_sound}}
-use Rattle.lil_scope.specs.declared.env.Env.{Env}
+use Rattle.lil_scope.specs.{declared.env.Env.Env, Names.{around_of, chain_by, inside, entered}}
 use Rattle.lil_layout.specs.Data.{variable_words, data_words}
-use Rattle.lil_check_stmt.specs.{Statements.statements_mean, Stmts.{decl_step, bodies_mean}, declared.stmt.Stated.Stated}
+use Rattle.lil_check_stmt.specs.{Statements.{result_of, result_by, statements_mean}, Texts.texts, Stmts.{Bodies, body_step, bodies_mean}, declared.stmt.Stated.Stated}
 use Rattle.lil_interfaces.specs.{declared.surface.Interface.Interface, Interfaces.residents}
-use Rattle.lil_right_type.specs.{Right.{Clear, clear_left, clear_right, IsThere}, Types.IsTold, Words.AreMeasured}
+use Rattle.lil_right_type.specs.{Right.{Right, Clear, clear_left, clear_right, IsThere, IsAny}, Homes.stands_inside, Types.IsTold, Words.AreMeasured}
 use Rattle.lil_right_stmt.specs.Statements.{statements_right}
 use Rattle.lil_right_data.specs.{Room.{IsLying, variables_there, room}, Shapes.shapes_there}
-use Rattle.lil_right_sort.specs.Growth.{Few, Declared}
-use Rattle.lil_right_decl.specs.Told.{declared_told, declared_settled}
-use Rattle.lil_check_unit.specs.{Modules.{in_no_with, module_words, module_with, with_variables, laid_out, assembled}, Units.{first_of, declared, stated, is_long, long_rows, names_fault, worst, late_fault, data_rows, data_fault, unit_fault, imports_fault, program_fault, naming_rows, missing_rows, module_of}}
+use Rattle.lil_right_sort.specs.Growth.{Few, IsProper, Declared}
+use Rattle.lil_right_decl.specs.Told.{IsModule, declared_told, declared_settled}
+use Rattle.lil_check_unit.specs.{Modules.{in_no_with, module_words, are_bytes, procedures_with, module_with, with_variables, laid_out, with_procedures, assembled}, Units.{first_of, declared, stated, is_long, long_rows, names_fault, worst, late_fault, data_rows, data_fault, unit_fault, imports_fault, program_fault, naming_rows, missing_rows, module_of}}
 use Rattle.lil_check_unit.specs.UnitLaws.{none_before, none_behind, no_declared, no_stated}
 use Rattle.lil_check_unit.specs.Units as units
-use Rattle.lil_check_unit.proofs.Kept.{body_is}
+use Rattle.lil_check_unit.proofs.Procedures.{up, arounds, calls_are, procedures_there, made_many, made_around, made_strings, made_at, AllFrom, at_number as body_at, bodies_right}
 
 -- ---- no test finds a fault where none is told
 clear_of : (rs : List Row) → tell None rs ≡ None → Clear rs
@@ -86,48 +86,134 @@ are_few t h n e xs at form = by (nat_lt n 16) at
 abbrev pub Meant : Option Resolved → Type 0
 Meant o = (m : Resolved) × (o ≡ Some m) × IsSound m
 
-module _ (t : Table) (told : IsTold t) (words : AreMeasured t) (vs : List RVar) (lie : AllFine (IsLying t) vs) where
-  -- what lies in its variables
-  reached : sum_by (variable_words t) vs ≤ 32000 → (shapes ts : List Shape) × (shaping.shapes t ≡ Some shapes) × (variables_by (Some shapes) vs ≡ Some ts) × (all_words ts ≤ sum_by (variable_words t) vs)
-  reached few =
-      let all = shapes_there t told words in
-      let v = variables_there t told words vs lie few in
-      (all.0, v.0, all.1, ap (λ o. variables_by o vs) (sym all.1) ∙ v.1, v.2)
+-- ---- the body, or a procedure, that runs among declarations
+module _ (e : Env) (d : Declared e) (settled : e.waits ≡ []) (shapes ts : List Shape) (all : shaping.shapes e.types ≡ Some shapes) (variables : variables_by (Some shapes) e.variables ≡ Some ts) where
+  abbrev scope : List ℕ → Scope
+  scope chain = outermost (targets e.types shapes) ts (arounds e.procedures) chain
 
-  made : (n : List ℕ) (ss : List RStmt) (shapes ts : List Shape) → shaping.shapes t ≡ Some shapes → variables_by (Some shapes) vs ≡ Some ts → all_words ts ≤ sum_by (variable_words t) vs → data_words t vs [] (Some ss) ≤ 32000
-      → AllSound (outermost (targets t shapes) ts) false ss → Meant (assembled t vs n (Some ss))
-  made n ss shapes ts all variables low few sound =
-      let m = module_with t vs n shapes ts (statements_of ss) in
-      let r = room t told words vs lie n shapes ts ss low few in
+  -- a procedure by its number
+  abbrev scope_at : Option RProc → ℕ → Scope
+  scope_at None n = scope []
+  scope_at (Some q) n = scope (up n ∷ map up q.around)
+
+  abbrev BodyRight : ℕ → Option (List RStmt) → Type 0
+  BodyRight n o = IsThere (AllSound (scope_at (slice_get e.procedures n) n) false) o
+
+  at_number : (n : ℕ) (q : RProc) → slice_get e.procedures n ≡ Some q → (ss : List Stmt) → Right (IsThere (AllSound (scope (up n ∷ map up q.around)) false)) (statements_mean (inside n (Some q) e) false ss)
+  at_number n q there ss =
+      statements_right (inside n (Some q) e) (scope (up n ∷ map up q.around)) (outside e.types e.variables shapes ts (arounds e.procedures) (up n ∷ map up q.around) all variables)
+      (record { types = d.told.types; words = d.told.words; names = d.told.names; homed = d.told.homed; stands = stands_inside e.scopes.blocks e.procedures d.told.homed n q there }) settled
+      (record {
+        returns = ap (result_of e.types) there ∙ (proper_at e.procedures n q there d.proper).1.1;
+        calls = calls_are e.procedures (chain_by e.procedures (Some n)) (scope (up n ∷ map up q.around)) refl (ap (λ (o : Option RProc). up n ∷ map up (around_of o)) (sym there));
+      }) false ss
+    where
+      proper_at : (qs : List RProc) (n : ℕ) (q : RProc) → slice_get qs n ≡ Some q → AllFine (IsProper e.types) qs → IsProper e.types q
+      proper_at [] n q is h = absurd (none-some q is)
+      proper_at (p ∷ qs) zero q is h = subst (IsProper e.types) (same_Some p q is) h.0
+      proper_at (p ∷ qs) (suc n) q is h = proper_at qs n q is h.1
+
+  procedure_right : (n : ℕ) (ss : List Stmt) → n < length e.procedures → Right (BodyRight n) (statements_mean (entered n e) false ss)
+  procedure_right n ss less = by (slice_get e.procedures n) refl
+    where
+      past : (qs : List RProc) (n : ℕ) → slice_get qs n ≡ None → length qs ≤ n
+      past [] n is = omega arith
+      past (q ∷ qs) zero is = absurd (none-some q (sym is))
+      past (q ∷ qs) (suc n) is = omega (arith, past qs n is)
+
+      by : (o : Option RProc) → slice_get e.procedures n ≡ o → Right (IsThere (AllSound (scope_at o n) false)) (statements_mean (inside n o e) false ss)
+      by None is = absurd (omega (arith, past e.procedures n is, less))
+      by (Some q) is = at_number n q is ss
+
+  body_right : (ss : List Stmt) → e.procedure ≡ None → Right (IsThere (AllSound (scope []) false)) (statements_mean (in_no_with e) false ss)
+  body_right ss none =
+      statements_right (in_no_with e) (scope []) (outside e.types e.variables shapes ts (arounds e.procedures) [] all variables)
+      (record { types = d.told.types; words = d.told.words; names = d.told.names; homed = d.told.homed; stands = d.told.stands }) settled
+      (record {
+        returns = ap (result_by (in_no_with e)) none;
+        calls = calls_are e.procedures (chain_by e.procedures e.procedure) (scope []) refl (ap (λ (o : Option ℕ). map up (chain_by e.procedures o)) (sym none));
+      }) false ss
+
+  bytes_in : (ns : List ℕ) → AllFine (λ n. n < 250) ns → are_bytes ns ≡ true
+  bytes_in [] h = refl
+  bytes_in (n ∷ ns) h = let low : nat_lt n 255 ≡ true = grind (arith, nat_tests, h.0) in λ i. low i && bytes_in ns h.1 i
+
+  all_bytes : (qs : List RProc) → ((n : ℕ) (q : RProc) → slice_get qs n ≡ Some q → are_bytes q.around ≡ true) → AllFine (λ (q : RProc). are_bytes q.around ≡ true) qs
+  all_bytes [] h = tt
+  all_bytes (q ∷ qs) h = (h 0 q refl, all_bytes qs (λ n q is. h (suc n) q is))
+
+  some_bodies : (n : ℕ) (bs : Bodies) → AllFrom BodyRight n bs → AllFine (λ (b : Option (List RStmt)). IsThere IsAny b) bs
+  some_bodies n [] h = tt
+  some_bodies n (None ∷ bs) h = absurd h.0
+  some_bodies n (Some b ∷ bs) h = (tt, some_bodies (suc n) bs h.1)
+
+  -- the module that they make
+  made : (n : List ℕ) (ss : List RStmt) (bs : Bodies) → all_words ts ≤ sum_by (variable_words e.types) e.variables → data_words e.types e.variables bs (Some ss) ≤ 32000
+      → AllSound (scope []) false ss → AllFrom BodyRight 0 bs → length bs ≡ length e.procedures → Meant (assembled e n (record { procedures = bs; body = Some ss }))
+  made n ss bs low few sound bodies many =
+      let ps = procedures_there e.procedures bs many (some_bodies 0 bs bodies) (all_bytes e.procedures (λ n q is. bytes_in q.around (d.told.homed.blocks n q is).path.low.1)) in
+      let m : Resolved = module_with e.types e.variables e.procedures n shapes ts ps.0 (statements_of ss) in
+      let r = room e.types d.told.types d.told.words e.variables d.variables n shapes ts ps.0 bs ss low (made_strings e.procedures bs ps.0 ps.1) few in
       let fits : nat_le (module_words m) 32000 ≡ true = grind (arith, nat_tests, r) in
-      (m, ap (λ o. laid_out t vs n o ss) all ∙ ap (λ o. with_variables t vs n shapes o ss) variables ∙ ap (λ c. if c then Some m else None) fits, body_sound (outermost (targets t shapes) ts) false ss sound)
+      let around : map procedure_around ps.0 ≡ arounds e.procedures = made_around e.procedures bs ps.0 ps.1 in (
+        m,
+        ap (λ (o : Option (List Procedure)). with_procedures e.types e.variables e.procedures n o ss) ps.1
+            ∙ ap (λ (o : Option (List Shape)). laid_out e.types e.variables e.procedures n o ps.0 ss) all
+            ∙ ap (λ (o : Option (List Shape)). with_variables e.types e.variables e.procedures n shapes o ps.0 ss) variables
+            ∙ ap (λ (c : Bool). if c then Some m else None) fits,
+        record {
+          few = omega (arith, made_many e.procedures bs ps.0 ps.1, d.told.homed.few);
+          body = subst (λ (xs : List (List ℕ)). IsSoundBody (outermost (targets e.types shapes) ts xs []) false (statements_of ss)) (sym around) (body_sound (scope []) false ss sound);
+          procedures = procedures ps.0 ps.1 around;
+        },
+      )
+    where
+      at_number_of : (n : ℕ) (body : List RStmt) → slice_get bs n ≡ Some (Some body) → BodyRight n (Some body)
+      at_number_of n body is = let same : 0 + n ≡ n = omega arith in subst (λ (k : ℕ). BodyRight k (Some body)) same (body_at BodyRight 0 bs n (Some body) bodies is)
+
+      procedures : (ps : List Procedure) → procedures_with e.procedures bs ≡ Some ps → map procedure_around ps ≡ arounds e.procedures → (p : ℕ) (its : Procedure) → procedure_by ps p ≡ Some its
+          → IsSoundBody (outermost (targets e.types shapes) ts (map procedure_around ps) (p ∷ its.around)) false its.body
+      procedures ps made around zero its is = absurd (none-some its is)
+      procedures ps made around (suc n) its is =
+          let m = made_at e.procedures bs ps made n its is in
+          let next : up n ≡ suc n = omega arith in
+          let body : IsThere (AllSound (scope (up n ∷ map up m.of.around)) false) (Some m.body) = subst (λ (o : Option RProc). IsThere (AllSound (scope_at o n) false) (Some m.body)) m.there (at_number_of n m.body m.body_there) in
+          subst (λ (p : Procedure). IsSoundBody (outermost (targets e.types shapes) ts (map procedure_around ps) (suc n ∷ p.around)) false p.body) (sym m.is)
+          (subst (λ (xs : List (List ℕ)). IsSoundBody (outermost (targets e.types shapes) ts xs (suc n ∷ map up m.of.around)) false (statements_of m.body)) (sym around)
+          (subst (λ (k : ℕ). IsSoundBody (scope (k ∷ map up m.of.around)) false (statements_of m.body)) next (body_sound (scope (up n ∷ map up m.of.around)) false m.body body)))
 
 at_most : (n : ℕ) → nat_lt 32000 n ≡ false → n ≤ 32000
 at_most n h = grind (arith, nat_tests, h)
 
--- fewer procedures have no more words
-fewer : (t : Table) (vs : List RVar) (ps : List (Option (List RStmt))) (body : Option (List RStmt)) → data_words t vs ps body ≤ 32000 → data_words t vs [] body ≤ 32000
+variables_few : (t : Table) (vs : List RVar) (bs : Bodies) (body : Option (List RStmt)) → data_words t vs bs body ≤ 32000 → sum_by (variable_words t) vs ≤ 32000
 unfolding data_words
-fewer t vs ps body h = omega (arith, h)
+variables_few t vs bs body h = omega (arith, h)
 
-variables_few : (t : Table) (vs : List RVar) (ps : List (Option (List RStmt))) (body : Option (List RStmt)) → data_words t vs ps body ≤ 32000 → sum_by (variable_words t) vs ≤ 32000
-unfolding data_words
-variables_few t vs ps body h = omega (arith, h)
-
-body_clear : (e : Env) (ds : List Decl) (ss : List Stmt) → Clear (bodies_mean e ds ss).1 → Clear (statements_mean e false ss).1
+-- the body, and the bodies of procedures
+both_clear : (e : Env) (ds : List Decl) (ss : List Stmt) → Clear (bodies_mean e ds ss).1 → Clear (statements_mean e false ss).1 × Clear (walk (body_step e) [] (texts ds)).1
 unfolding bodies_mean after
-body_clear e ds ss clear = clear_left (statements_mean e false ss).1 [] (clear_right (walk (decl_step e) [] ds).1 _ clear)
+both_clear e ds ss clear = (clear_left (statements_mean e false ss).1 _ clear, clear_left (walk (body_step e) [] (texts ds)).1 [] (clear_right (statements_mean e false ss).1 _ clear))
+
+stated_is : (e : Env) (ds : List Decl) (ss : List Stmt) → (bodies_mean e ds ss).0 ≡ record { procedures = (walk (body_step e) [] (texts ds)).0; body = (statements_mean e false ss).0 }
+unfolding bodies_mean after
+stated_is e ds ss = refl
 
 module _ (u : Tree) where
   abbrev now : Env
   now = (declared residents u).0
 
-  right_there : {e : Env} {b : Stated} {o : Option Fault} → e ≡ in_no_with now → b ≡ (stated residents u).0 → worst u residents ≡ None → o ≡ late_fault u residents → data_fault u e b o ≡ None → Meant (assembled e.types e.variables u.head.name.name b.body)
+  abbrev own : Option (List RStmt)
+  own = (statements_mean (in_no_with now) false u.body).0
+
+  abbrev bodies : Bodies × List Row
+  bodies = walk (body_step (in_no_with now)) [] (texts u.decls)
+
+  right_there : {e : Env} {b : Stated} {o : Option Fault} → e ≡ in_no_with now → b ≡ (stated residents u).0 → worst u residents ≡ None → o ≡ late_fault u residents → data_fault u e b o ≡ None → Meant (assembled e u.head.name.name b)
   unfolding worst late_fault declared
   right_there {e} {b} {o} there body right late none =
-      subst (λ (e : Env). Meant (assembled e.types e.variables u.head.name.name b.body)) (sym there)
-      (subst (λ (b : Stated). Meant (assembled now.types now.variables u.head.name.name b.body)) (sym body)
-      (by (stated residents u).0.body (subst (IsThere (AllSound scope false)) (sym stated_body) body_there) few))
+      subst (λ (e : Env). Meant (assembled e u.head.name.name b)) (sym there)
+      (subst (λ (b : Stated). Meant (assembled (in_no_with now) u.head.name.name b)) (sym body)
+      (subst (λ (b : Stated). Meant (assembled (in_no_with now) u.head.name.name b)) (sym both) (by own body_there few)))
     where
       no_late : late_fault u residents ≡ None
       no_late = sym late ∙ none_behind (tell None (data_rows u e b)) o none
@@ -141,34 +227,54 @@ module _ (u : Tree) where
       long_clear : Clear (long_rows u now)
       long_clear = clear_of _ (none_behind (now_of (tell None (declared residents u).1)) _ (none_before _ _ right))
 
+      is_module : IsModule (texts u.decls) now
+      is_module = declared_told u.head.imports u.decls u.head.exports declared_clear
+
       is_declared : Declared now
-      is_declared = declared_told u.head.imports u.decls u.head.exports declared_clear (are_few now.types long_clear.0)
+      is_declared = is_module.told (are_few now.types long_clear.0)
 
-      stated_body : (stated residents u).0.body ≡ (statements_mean (in_no_with now) false u.body).0
-      stated_body = body_is (in_no_with now) u.decls u.body
+      d : Declared (in_no_with now)
+      d = record {
+        told = record { types = is_declared.told.types; words = is_declared.told.words; names = is_declared.told.names; homed = is_declared.told.homed; stands = is_declared.told.stands };
+        residents = is_declared.residents;
+        variables = is_declared.variables;
+        proper = is_declared.proper;
+      }
 
-      few : data_words now.types now.variables (stated residents u).0.procedures (stated residents u).0.body ≤ 32000
-      few = at_most _ (subst (λ (b : Stated). nat_lt 32000 (data_words now.types now.variables b.procedures b.body) ≡ false) body
+      both : (stated residents u).0 ≡ record { procedures = bodies.0; body = own }
+      both = stated_is (in_no_with now) u.decls u.body
+
+      few : data_words now.types now.variables bodies.0 own ≤ 32000
+      few = at_most _ (subst (λ (b : Stated). nat_lt 32000 (data_words now.types now.variables b.procedures b.body) ≡ false) (body ∙ both)
           (subst (λ (e : Env). nat_lt 32000 (data_words e.types e.variables b.procedures b.body) ≡ false) there (clear_of (data_rows u e b) (none_before (tell None (data_rows u e b)) o none)).0))
 
-      lies : (shapes ts : List Shape) × (shaping.shapes now.types ≡ Some shapes) × (variables_by (Some shapes) now.variables ≡ Some ts) × (all_words ts ≤ sum_by (variable_words now.types) now.variables)
-      lies = reached now.types is_declared.told.types is_declared.told.words now.variables is_declared.variables (variables_few now.types now.variables _ _ few)
+      all : (shapes : List Shape) × (shaping.shapes now.types ≡ Some shapes)
+      all = let s = shapes_there now.types is_declared.told.types is_declared.told.words in (s.0, s.1)
 
-      scope : Scope
-      scope = outermost (targets now.types lies.0) lies.1
+      lies : (ts : List Shape) × (variables_by (Some all.0) now.variables ≡ Some ts) × (all_words ts ≤ sum_by (variable_words now.types) now.variables)
+      lies =
+          let v = variables_there now.types is_declared.told.types is_declared.told.words now.variables is_declared.variables (variables_few now.types now.variables _ _ few) in
+          (v.0, ap (λ o. variables_by o now.variables) (sym all.1) ∙ v.1, v.2)
 
-      body_there : IsThere (AllSound scope false) (statements_mean (in_no_with now) false u.body).0
-      body_there = statements_right (in_no_with now) scope (outside now.types now.variables lies.0 lies.1 lies.2 lies.3) (record { types = is_declared.told.types; words = is_declared.told.words; names = is_declared.told.names })
-          (declared_settled u.head.imports u.decls u.head.exports) is_declared.procedure false u.body (body_clear (in_no_with now) u.decls u.body stated_clear)
+      settled : now.waits ≡ []
+      settled = declared_settled u.head.imports u.decls u.head.exports
 
-      by : (o : Option (List RStmt)) → IsThere (AllSound scope false) o → data_words now.types now.variables (stated residents u).0.procedures o ≤ 32000 → Meant (assembled now.types now.variables u.head.name.name o)
+      clear : Clear (statements_mean (in_no_with now) false u.body).1 × Clear bodies.1
+      clear = both_clear (in_no_with now) u.decls u.body stated_clear
+
+      body_there : IsThere (AllSound (scope (in_no_with now) d settled all.0 lies.0 all.1 lies.1 []) false) own
+      body_there = body_right (in_no_with now) d settled all.0 lies.0 all.1 lies.1 u.body is_module.procedure clear.0
+
+      all_bodies : AllFrom (BodyRight (in_no_with now) d settled all.0 lies.0 all.1 lies.1) 0 bodies.0 × (length bodies.0 ≡ 0 + length (texts u.decls))
+      all_bodies = bodies_right (BodyRight (in_no_with now) d settled all.0 lies.0 all.1 lies.1) (in_no_with now) (procedure_right (in_no_with now) d settled all.0 lies.0 all.1 lies.1) (texts u.decls) 0 [] is_module.whole (omega (arith, is_module.count)) (tt, refl) clear.1
+
+      by : (o : Option (List RStmt)) → IsThere (AllSound (scope (in_no_with now) d settled all.0 lies.0 all.1 lies.1 []) false) o → data_words now.types now.variables bodies.0 o ≤ 32000 → Meant (assembled (in_no_with now) u.head.name.name (record { procedures = bodies.0; body = o }))
       by None h few = absurd h
-      by (Some ss) h few =
-          made now.types is_declared.told.types is_declared.told.words now.variables is_declared.variables u.head.name.name ss lies.0 lies.1 lies.2 lies.3 lies.4 (fewer now.types now.variables (stated residents u).0.procedures (Some ss) few) h
+      by (Some ss) h few = made (in_no_with now) d settled all.0 lies.0 all.1 lies.1 u.head.name.name ss bodies.0 lies.2 few h all_bodies.0 (omega (arith, all_bodies.1, is_module.count))
 
   module _ {is : List Interface} (same : is ≡ residents) where
     pub made_there : {e : Env} {b : Stated} {o : Option Fault} → e ≡ in_no_with (declared is u).0 → b ≡ (stated is u).0 → worst u is ≡ None → o ≡ late_fault u is → data_fault u e b o ≡ None
-        → Meant (assembled e.types e.variables u.head.name.name b.body)
+        → Meant (assembled e u.head.name.name b)
     made_there there body right late none =
         right_there (there ∙ ap (λ is. in_no_with (declared is u).0) same) (body ∙ ap (λ is. (stated is u).0) same) (ap (worst u) (sym same) ∙ right) (late ∙ ap (late_fault u) same) none
 

@@ -77,9 +77,9 @@ module _ (u : Tree) (is : List Interface) where
   wrong_unit h = ap (λ o. first_of o (data_fault u (declared is u).0 (stated is u).0 (late_fault u is))) h
 
   module _ {e : Env} {b : Stated} (there : e ≡ in_no_with (declared is u).0) (body : b ≡ (stated is u).0) where
-    pub module_is : assembled e.types e.variables u.head.name.name b.body ≡ module_of u is
+    pub module_is : assembled e u.head.name.name b ≡ module_of u is
     unfolding module_of
-    module_is = λ j. assembled (there j).types (there j).variables u.head.name.name (body j).body
+    module_is = λ j. assembled (there j) u.head.name.name (body j)
 
     pub then_last : {o : Option Fault} → worst u is ≡ None → o ≡ late_fault u is → unit_fault u is ≡ data_fault u e b o
     unfolding unit_fault

@@ -1,3 +1,4 @@
 pub mod Modules
 pub mod UnitLaws
 pub mod Units
+pub mod Whole

@@ -1,9 +1,10 @@
 -- The module that what is declared and stated makes.
-use Rattle.std.specs.Prelude.{ℕ, ◌+◌, nat_le, List, [], length, map, Option, Some, None, if◌then◌else◌}
+use Rattle.std.specs.Prelude.{ℕ, ◌+◌, nat_le, nat_lt, ◌&&◌, Bool, true, List, [], ◌∷◌, length, map, Option, Some, None, if◌then◌else◌}
 use Rattle.lil_types.specs.Types.{Table}
-use Rattle.lil_declared.specs.declared.declared.RVar.{RVar}
-use Rattle.lil_resolved.specs.{Resolved.{Statements, Resolved}, Kinds.{Shape, all_words}, Sizes.module_strings, Views.statements_of, declared.resolved.RStmt.RStmt}
+use Rattle.lil_declared.specs.declared.declared.{RProc.RProc, RVar.RVar}
+use Rattle.lil_resolved.specs.{Resolved.{Statements, Procedure, Resolved}, Kinds.{Shape, all_words}, Sizes.module_strings, Views.statements_of, declared.resolved.RStmt.RStmt}
 use Rattle.lil_scope.specs.declared.env.Env.{Env}
+use Rattle.lil_check_stmt.specs.declared.stmt.Stated.{Stated}
 use Rattle.lil_shapes.specs.{Measured.variable_name, Pointers.targets, Shaping.{shapes, variables_by}}
 
 -- the statements of a block stand in no WITH
@@ -18,21 +19,52 @@ module_words m = all_words m.variables + length (module_strings m)
 abbrev pub with_room : Resolved → Option Resolved
 with_room m = if nat_le (module_words m) 32000 then Some m else None
 
--- by the types and the variables
-module _ (t : Table) (vs : List RVar) where
-  abbrev pub module_with : List ℕ → (types variables : List Shape) → Statements → Resolved
-  module_with n types ts ss = record { name = n; targets = targets t types; names = map variable_name vs; variables = ts; procedures = []; body = ss }
+-- a procedure, whose number and those of the procedures around it are bytes in the code, and from 1
+abbrev pub are_bytes : List ℕ → Bool
+are_bytes [] = true
+are_bytes (n ∷ ns) = nat_lt n 255 && are_bytes ns
+
+abbrev pub procedure_with : RProc → List RStmt → Procedure
+procedure_with q ss = record { name = q.name; around = map (λ n. n + 1) q.around; body = statements_of ss }
+
+abbrev pub made_of : RProc → Option (List RStmt) → Option Procedure
+made_of q None = None
+made_of q (Some ss) = if are_bytes q.around then Some (procedure_with q ss) else None
+
+abbrev pub and_procedure : Option Procedure → Option (List Procedure) → Option (List Procedure)
+and_procedure None ps = None
+and_procedure (Some p) None = None
+and_procedure (Some p) (Some ps) = Some (p ∷ ps)
+
+-- procedures with their bodies, in the order of their headings: none where one has no code
+abbrev pub procedures_with : List RProc → List (Option (List RStmt)) → Option (List Procedure)
+procedures_with [] [] = Some []
+procedures_with (q ∷ qs) (b ∷ bs) = and_procedure (made_of q b) (procedures_with qs bs)
+procedures_with _ _ = None
+
+-- by the types, the variables and the procedures
+module _ (t : Table) (vs : List RVar) (qs : List RProc) where
+  abbrev pub module_with : List ℕ → (types variables : List Shape) → List Procedure → Statements → Resolved
+  module_with n types ts ps ss = record { name = n; targets = targets t types; names = map variable_name vs; variables = ts; procedures = ps; body = ss }
 
   -- where its variables lie, and its strings behind them
-  abbrev pub with_variables : List ℕ → List Shape → Option (List Shape) → List RStmt → Option Resolved
-  with_variables n types None ss = None
-  with_variables n types (Some ts) ss = with_room (module_with n types ts (statements_of ss))
+  abbrev pub with_variables : List ℕ → List Shape → Option (List Shape) → List Procedure → List RStmt → Option Resolved
+  with_variables n types None ps ss = None
+  with_variables n types (Some ts) ps ss = with_room (module_with n types ts ps (statements_of ss))
 
-  abbrev pub laid_out : List ℕ → Option (List Shape) → List RStmt → Option Resolved
-  laid_out n None ss = None
-  laid_out n (Some types) ss = with_variables n types (variables_by (Some types) vs) ss
+  abbrev pub laid_out : List ℕ → Option (List Shape) → List Procedure → List RStmt → Option Resolved
+  laid_out n None ps ss = None
+  laid_out n (Some types) ps ss = with_variables n types (variables_by (Some types) vs) ps ss
+
+  abbrev pub with_procedures : List ℕ → Option (List Procedure) → List RStmt → Option Resolved
+  with_procedures n None ss = None
+  with_procedures n (Some ps) ss = laid_out n (shapes t) ps ss
 
   -- none where a form has no code
-  abbrev pub assembled : List ℕ → Option (List RStmt) → Option Resolved
-  assembled n None = None
-  assembled n (Some ss) = laid_out n (shapes t) ss
+  abbrev pub assembled_by : List ℕ → List (Option (List RStmt)) → Option (List RStmt) → Option Resolved
+  assembled_by n bodies None = None
+  assembled_by n bodies (Some ss) = with_procedures n (procedures_with qs bodies) ss
+
+-- the module of a name that what is declared and stated makes
+abbrev pub assembled : Env → List ℕ → Stated → Option Resolved
+assembled e n b = assembled_by e.types e.variables e.procedures n b.procedures b.body

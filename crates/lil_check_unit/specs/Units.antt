@@ -117,7 +117,7 @@ late_fault u is = worse (late_of (tell None (declared is u).1)) (late_of (tell N
 
 -- ---- the module of a unit that has no fault
 unfoldable pub module_of : Tree → List Interface → Option Resolved
-module_of u is = assembled (declared is u).0.types (declared is u).0.variables u.head.name.name (stated is u).0.body
+module_of u is = assembled (declared is u).0 u.head.name.name (stated is u).0
 
 -- ---- a unit
 -- the fault of classes 8 and 9, where o is the late fault

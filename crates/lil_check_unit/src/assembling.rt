@@ -1,16 +1,79 @@
 //! The module that what is declared and stated makes.
 
-ghost use Rattle.std.specs.Prelude.{◌≡◌, ◌≤◌, IfOk, Some};
-ghost use Rattle.lil_resolved.specs.Views.{module_of, statements_of, IsMeasured};
+ghost use Rattle.std.specs.Prelude.{◌≡◌, ◌≤◌, ◌+◌, None, map, option_map, if◌then◌else◌, IfOk, IfSome, Some};
+ghost use Rattle.lil_resolved.specs.Views.{module_of, procedure_of, statements_of, IsMeasured};
 ghost use Rattle.lil_shapes.specs.Measured.{shapes_in, shapes_laid, IsShaped, IsLaid};
 ghost use Rattle.lil_check_unit.specs.Modules as spec;
+ghost use Rattle.lil_check_unit.specs.Whole.{body_of};
 ghost use Rattle.lil_check_unit.specs.Units.{IsThere};
 
 use lil_base::{Items, Memory, Name};
-use lil_resolved::{RModule, RStmt};
+use lil_check_stmt::Stated;
+use lil_declared::RProc;
+use lil_resolved::{RModule, RProcedure, RStmt};
 use lil_scope::Env;
 use lil_shapes::{Laid, Shaped, all_shapes, all_targets, lay};
 use std::alloc::Global;
+
+/// The numbers of procedures from 1, where all are bytes.
+fn bytes(alloc: Global, of: &[usize]) -> Result<Option<Items<u8>>, Memory>
+    ensures { IfOk result (λ o. o ≡ if spec.are_bytes of.now then Some (map (λ n. n + 1) of.now) else None) }
+{
+    let mut numbers = Items::new(alloc);
+    for number in of {
+        if *number >= 255 {
+            return Ok(None);
+        }
+        numbers.push((*number + 1) as u8)?;
+    }
+    Ok(Some(numbers))
+}
+
+/// A procedure with its body, where it has code.
+fn procedure(
+    alloc: Global,
+    of: &RProc,
+    body: Option<Items<RStmt>>,
+) -> Result<Option<RProcedure>, Memory>
+    ensures means { IfOk result (λ o. option_map procedure_of o ≡ spec.made_of of.now body) }
+    ensures body { IfOk result (λ o. IfSome o (λ p. body_of p ≡ body)) }
+{
+    let Some(body) = body else {
+        return Ok(None);
+    };
+    let Some(around) = bytes(alloc, of.around.as_slice())? else {
+        return Ok(None);
+    };
+    let name = of.name.copy(alloc)?;
+    Ok(Some(RProcedure { name, around, body }))
+}
+
+/// Procedures with their bodies, where all have code.
+fn procedures(
+    alloc: Global,
+    of: &[RProc],
+    bodies: Items<Option<Items<RStmt>>>,
+) -> Result<Option<Items<RProcedure>>, Memory>
+    ensures means { IfOk result (λ o. option_map (map procedure_of) o ≡ spec.procedures_with of.now bodies) }
+    ensures bodies { IfOk result (λ o. IfSome o (λ ps. map body_of ps ≡ bodies)) }
+{
+    let mut left = bodies;
+    let mut made = Items::new(alloc);
+    for one in of {
+        let Some(body) = left.take_first() else {
+            return Ok(None);
+        };
+        let Some(procedure) = procedure(alloc, one, body)? else {
+            return Ok(None);
+        };
+        made.push(procedure)?;
+    }
+    if left.is_empty() {
+        Ok(Some(made))
+    } else {
+        Ok(None)
+    }
+}
 
 /// A module of a name, over shapes and variables that are made.
 fn named(
@@ -19,12 +82,14 @@ fn named(
     declared: &Env,
     types: Shaped,
     laid: Laid,
+    procedures: Items<RProcedure>,
     body: Items<RStmt>,
 ) -> Result<RModule, Memory>
     requires shaped { IsShaped types }
     requires lies { IsLaid types declared.now.variables laid }
-    ensures means { IfOk result (λ m. module_of m ≡ spec.module_with declared.now.types declared.now.variables name.now (shapes_in types) (shapes_laid types laid) (statements_of body)) }
+    ensures means { IfOk result (λ m. module_of m ≡ spec.module_with declared.now.types declared.now.variables declared.now.procedures name.now (shapes_in types) (shapes_laid types laid) (map procedure_of procedures) (statements_of body)) }
     ensures body { IfOk result (λ m. m.body ≡ body) }
+    ensures procedures { IfOk result (λ m. m.procedures ≡ procedures) }
     ensures measured { IfOk result (λ m. IsMeasured m) }
 {
     let name = name.copy(alloc)?;
@@ -35,6 +100,7 @@ fn named(
         targets,
         variables: laid.variables,
         words: laid.words,
+        procedures,
         body,
     })
 }
@@ -44,20 +110,28 @@ pub(crate) fn assembled(
     alloc: Global,
     name: &Name,
     declared: &Env,
-    body: Option<Items<RStmt>>,
+    stated: Stated,
 ) -> Result<RModule, Memory>
-    requires there { IsThere (spec.assembled declared.now.types declared.now.variables name.now body) }
-    ensures means { IfOk result (λ m. Some (module_of m) ≡ spec.assembled declared.now.types declared.now.variables name.now body) }
-    ensures body { IfOk result (λ m. body ≡ Some m.body) }
+    requires there { IsThere (spec.assembled declared.now name.now stated) }
+    ensures means { IfOk result (λ m. Some (module_of m) ≡ spec.assembled declared.now name.now stated) }
+    ensures body { IfOk result (λ m. stated.body ≡ Some m.body) }
+    ensures bodies { IfOk result (λ m. map body_of m.procedures ≡ stated.procedures) }
     ensures measured { IfOk result (λ m. IsMeasured m) }
     ensures fits { IfOk result (λ m. spec.module_words (module_of m) ≤ 32000) }
 {
+    let Stated {
+        procedures: bodies,
+        body,
+    } = stated;
     let Some(body) = body else { unreachable!() };
+    let Some(procedures) = procedures(alloc, declared.procedures.as_slice(), bodies)? else {
+        unreachable!()
+    };
     let Some(types) = all_shapes(alloc, &declared.types)? else {
         unreachable!()
     };
     let Some(laid) = lay(alloc, &types, declared.variables.as_slice())? else {
         unreachable!()
     };
-    named(alloc, name, declared, types, laid, body)
+    named(alloc, name, declared, types, laid, procedures, body)
 }

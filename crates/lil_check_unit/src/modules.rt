@@ -1,12 +1,12 @@
-ghost use Rattle.std.specs.Prelude.{◌≡◌, ◌≤◌, Err, IfOk, None, Some, nat_lt};
+ghost use Rattle.std.specs.Prelude.{◌≡◌, ◌≤◌, Err, IfOk, None, Some, map, nat_lt};
 ghost use Rattle.lil_base.specs.declared.fault.SourceFault.{SourceFault as Told};
 ghost use Rattle.lil_text.specs.declared.stop.ReadStop.TheVariants as stop;
 ghost use Rattle.lil_report.specs.{declared.report.Fault.Fault as Found, Told.tell};
 ghost use Rattle.lil_layout.specs.Data.{data_words};
 ghost use Rattle.lil_interfaces.specs.Interfaces.{residents};
 ghost use Rattle.lil_resolved.specs.{Sound.IsSound, Views.{module_of, IsMeasured}};
-ghost use Rattle.lil_check_stmt.specs.Whole.{extent, text_extent};
-ghost use Rattle.lil_check_unit.specs.Modules.{assembled, module_words};
+ghost use Rattle.lil_check_stmt.specs.{Texts.texts, Whole.{extent, text_extent}};
+ghost use Rattle.lil_check_unit.specs.{Modules.{assembled, module_words}, Whole.{AreKept, body_of}};
 ghost use Rattle.lil_check_unit.specs.Units as spec;
 
 use crate::assembling::assembled;
@@ -56,9 +56,10 @@ fn data_fault(u: &Unit, of: &Checked) -> Option<Fault>
 
 /// The module of what a unit without faults declares and states, unless its data are too long or it has a form that isn't built.
 fn with_data(alloc: Global, u: &Unit, of: Checked) -> Result<RModule, ReadStop>
-    requires { spec.data_fault u.now of.declared of.stated of.late ≡ None → spec.IsThere (assembled of.declared.types of.declared.variables u.now.head.name.name of.stated.body) }
-    ensures right { IfOk result (λ m. (Some (module_of m) ≡ assembled of.declared.types of.declared.variables u.now.head.name.name of.stated.body) × (spec.data_fault u.now of.declared of.stated of.late ≡ None)) }
+    requires { spec.data_fault u.now of.declared of.stated of.late ≡ None → spec.IsThere (assembled of.declared u.now.head.name.name of.stated) }
+    ensures right { IfOk result (λ m. (Some (module_of m) ≡ assembled of.declared u.now.head.name.name of.stated) × (spec.data_fault u.now of.declared of.stated of.late ≡ None)) }
     ensures body { IfOk result (λ m. of.stated.body ≡ Some m.body) }
+    ensures bodies { IfOk result (λ m. map body_of m.procedures ≡ of.stated.procedures) }
     ensures measured { IfOk result (λ m. IsMeasured m) }
     ensures fits { IfOk result (λ m. module_words (module_of m) ≤ 32000) }
     ensures wrong { (f : Told) → result ≡ Err (stop.Fault f) → (g : Found) × (spec.data_fault u.now of.declared of.stated of.late ≡ Some g) × (f ≡ spec.told g) }
@@ -71,7 +72,7 @@ fn with_data(alloc: Global, u: &Unit, of: Checked) -> Result<RModule, ReadStop>
                 stated,
                 late: _,
             } = of;
-            Ok(assembled(alloc, &u.head.name.name, &declared, stated.body)?)
+            Ok(assembled(alloc, &u.head.name.name, &declared, stated)?)
         }
     }
 }
@@ -87,6 +88,7 @@ pub fn check_module(alloc: Global, u: &Unit, interfaces: &Interfaces) -> Result<
     ensures there { spec.unit_fault u.now interfaces.now ≡ None → spec.IsThere (spec.module_of u.now interfaces.now) }
     ensures right { IfOk result (λ m. (Some (module_of m) ≡ spec.module_of u.now interfaces.now) × (spec.unit_fault u.now interfaces.now ≡ None)) }
     ensures kept { IfOk result (λ m. text_extent u.now.body ≤ extent m.body) }
+    ensures all_kept { IfOk result (λ m. AreKept (texts u.now.decls) m.procedures) }
     ensures sound { IfOk result (λ m. IsSound (module_of m)) }
     ensures measured { IfOk result (λ m. IsMeasured m) }
     ensures fits { IfOk result (λ m. module_words (module_of m) ≤ 32000) }

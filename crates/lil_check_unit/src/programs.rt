@@ -4,8 +4,8 @@ ghost use Rattle.lil_text.specs.declared.stop.ReadStop.TheVariants as stop;
 ghost use Rattle.lil_report.specs.{declared.report.Fault.Fault as Found, Told.tell};
 ghost use Rattle.lil_resolved.specs.{Sound.IsSound, Views.{module_of, IsMeasured}};
 ghost use Rattle.lil_interfaces.specs.Interfaces.{named, residents};
-ghost use Rattle.lil_check_stmt.specs.Whole.{extent, text_extent};
-ghost use Rattle.lil_check_unit.specs.Modules.{module_words};
+ghost use Rattle.lil_check_stmt.specs.{Texts.texts, Whole.{extent, text_extent}};
+ghost use Rattle.lil_check_unit.specs.{Modules.module_words, Whole.AreKept};
 ghost use Rattle.lil_check_unit.specs.Units as spec;
 
 use crate::checking::told;
@@ -110,6 +110,7 @@ fn missing_fault(interfaces: &Interfaces, u: &Unit) -> Option<Fault>
 fn with_imports(alloc: Global, u: &Unit) -> Result<RModule, ReadStop>
     ensures right { IfOk result (λ m. (Some (module_of m) ≡ spec.module_of u.now residents) × (spec.imports_fault u.now ≡ None)) }
     ensures kept { IfOk result (λ m. text_extent u.now.body ≤ extent m.body) }
+    ensures all_kept { IfOk result (λ m. AreKept (texts u.now.decls) m.procedures) }
     ensures sound { IfOk result (λ m. IsSound (module_of m)) }
     ensures measured { IfOk result (λ m. IsMeasured m) }
     ensures fits { IfOk result (λ m. module_words (module_of m) ≤ 32000) }
@@ -131,6 +132,7 @@ pub fn check_program(alloc: Global, file: &Name, u: &Unit) -> Result<RModule, Re
     ensures right { IfOk result (λ m. (Some (module_of m) ≡ spec.module_of u.now residents) × (spec.program_fault file.now u.now ≡ None)) }
     ensures there { spec.program_fault file.now u.now ≡ None → spec.IsThere (spec.module_of u.now residents) }
     ensures kept { IfOk result (λ m. text_extent u.now.body ≤ extent m.body) }
+    ensures all_kept { IfOk result (λ m. AreKept (texts u.now.decls) m.procedures) }
     ensures sound { IfOk result (λ m. IsSound (module_of m)) }
     ensures measured { IfOk result (λ m. IsMeasured m) }
     ensures fits { IfOk result (λ m. module_words (module_of m) ≤ 32000) }

@@ -124,10 +124,10 @@ module _ (e : Env) where
   given_is a xs = walk_map (s.argument_step a) (sense e) [] xs ∙ (λ j. walk (λ out x. after (by_sense (asks_at a (length out)) x j) (λ one. (out ++ one ∷ [], []))) [] xs)
 
   pub call_is : (p : Place) (d : Designator) (xs : List Expr) → means e (v.Call p d xs)
-      ≡ after (after (reach_means e (begins d) d) callee_node) (λ c. after (after (arguments_mean e (asks c) xs) (call_node e.types (begins d) c)) (λ a. (begun_at p a, [])))
+      ≡ after (after (reach_means e (begins d) d) (callee_node e)) (λ c. after (after (arguments_mean e (asks c) xs) (call_node e.types (begins d) c)) (λ a. (begun_at p a, [])))
   unfolding means reach_means
   call_is p d xs = ap (λ x. (sense e x).value) (sym (v.rolls-Call p d xs)) ∙ (ap (λ m. m.value) (rolled (o.Call p d xs))
-      ∙ (λ j. after (after ((way e d).reach (first_is d j)) callee_node) (λ c. after (after (given_is (asks c) xs j) (call_node e.types (first_is d j) c)) (λ a. (begun_at p a, [])))))
+      ∙ (λ j. after (after ((way e d).reach (first_is d j)) (callee_node e)) (λ c. after (after (given_is (asks c) xs j) (call_node e.types (first_is d j) c)) (λ a. (begun_at p a, [])))))
 
   pub typed_desig : (p : Place) (d : Designator) → typed_means e (v.Desig p d) ≡ after (reach_means e p d) (typed_node p)
   unfolding typed_means reach_means
@@ -250,7 +250,7 @@ module _ (e : Env) {r : Option Fault} where
         (said_to (said_map (chain_found p) (said_after _ _ h (subst (λ c. Said (walk (operation_means e p) c xs) s d t) begins' g))) m)
 
     pub is_call : {E : Type 0} {p q : Place} (d : Designator) (xs : List Expr) {o : Option Reached} {c kept : Option Callee} {asked : Asked} {found : Result (List Argument) E} {given : List Argument} {a b : Option Found} {s t u w' : Option Fault}
-        → of ≡ v.Call p d xs → q ≡ begins d → Said (reach_means e q d) r o s → Said (callee_node o) s c t → asked ≡ asks c → (kept ≡ c) × (found ≡ Ok given) → IfOk found (λ given. Said (arguments_mean e asked xs) t given u)
+        → of ≡ v.Call p d xs → q ≡ begins d → Said (reach_means e q d) r o s → Said (callee_node e o) s c t → asked ≡ asks c → (kept ≡ c) × (found ≡ Ok given) → IfOk found (λ given. Said (arguments_mean e asked xs) t given u)
         → Said (call_node e.types q kept given) u a w' → b ≡ begun_at p a → Said (means e of) r b w'
     is_call {p = p} {q = q} d xs {o = o} {c = c} {asked = k'} {given = given} {a = a} {s = s} {t = t} {u = u} {w' = w'} is first h g asked held g' l m = said_as (ap (means e) is ∙ call_is e p d xs)
         (said_after _ _ (said_after _ _ (subst (λ q. Said (reach_means e q d) r o s) first h) g)
@@ -263,7 +263,7 @@ module _ (e : Env) {r : Option Fault} where
   is_variable d {o = o} {s = s} first h g = said_after _ _ (subst (λ q. Said (reach_means e q d) r o s) first h) g
 
   pub is_stated : {E : Type 0} {q : Place} (d : Designator) (xs : List Expr) {ys : List Expr} {o : Option Reached} {c kept : Option Callee} {asked : Asked} {found : Result (List Argument) E} {given : List Argument} {a : Option RStmt}
-      {s t u w' : Option Fault} → q ≡ begins d → ys ≡ xs → Said (reach_means e q d) r o s → Said (callee_node o) s c t → asked ≡ asks c → (kept ≡ c) × (found ≡ Ok given) → IfOk found (λ given. Said (arguments_mean e asked ys) t given u)
+      {s t u w' : Option Fault} → q ≡ begins d → ys ≡ xs → Said (reach_means e q d) r o s → Said (callee_node e o) s c t → asked ≡ asks c → (kept ≡ c) × (found ≡ Ok given) → IfOk found (λ given. Said (arguments_mean e asked ys) t given u)
       → Said (statement_node e.types q kept given) u a w' → Said (call_means e d xs) r a w'
   unfolding call_means
   is_stated {q = q} d xs {ys = ys} {o = o} {c = c} {asked = k'} {given = given} {a = a} {s = s} {t = t} {u = u} {w' = w'} first these h g asked held g' l =

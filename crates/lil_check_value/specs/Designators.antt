@@ -2,7 +2,7 @@
 use Rattle.std.specs.Prelude.{ℕ, nat_lt, Bool, true, false, List, [], ◌∷◌, slice_get, Option, Some, None, if◌then◌else◌, ◌==◌, is_none, not, ◌&&◌}
 use Rattle.lil_base.specs.declared.fault.{Place.Place, FaultKind.{FaultKind, TheVariants.{WrongKind, ProcValue, Unknown, NotExported, Assign, NotArray, NotRecord, NotPointer, NoField, Opaque, ConstRange, ExprDeep, NotBuilt}}}
 use Rattle.lil_report.specs.Told.{Row, row}
-use Rattle.lil_scope.specs.{declared.{thing.{Kind.Kind, Routine.Routine, Thing.Thing, Variable.Variable}, env.Env.Env}, Names.{member, waits_for}}
+use Rattle.lil_scope.specs.{declared.{thing.{Kind.Kind, Routine.Routine, Thing.Thing, Variable.Variable}, env.Env.Env}, Names.{member, waits_for, levels_out}}
 use Rattle.lil_scope.specs.declared.thing.Kind.TheVariants as k
 use Rattle.lil_scope.specs.declared.thing.Thing.TheVariants as t
 use Rattle.lil_kinds.specs.{declared.{found.{Form.Form, Found.Found, Located.Located, Standing.Standing}, forms.{ArrayParts.ArrayParts, FieldAt.FieldAt}}, Forms.{array_parts, field, is_record, target, is_opaque}, Kinds.{assignable, misses}}
@@ -252,6 +252,10 @@ no_value (t.Resident x s) = true
 no_value (t.Standard x) = true
 no_value _ = false
 
+abbrev pub is_procedure : Thing → Bool
+is_procedure (t.Procedure x) = true
+is_procedure _ = false
+
 abbrev pub routine_found : Place → Routine → Option Found
 routine_found p x = if nat_lt 1 x.level then None else Some (constant_found p (k.Routine x.sort))
 
@@ -273,7 +277,9 @@ named_value texts o = (
   -- 24 WrongKind
   row (is_misplaced o.thing) o.name WrongKind
       -- 41 ProcValue
-      ∷ row (no_value o.thing) o.name ProcValue ∷ [],
+      ∷ row (no_value o.thing) o.name ProcValue
+      -- 90 NotBuilt: the value of a procedure
+      ∷ row (is_procedure o.thing) o.name NotBuilt ∷ [],
 )
 
 abbrev pub value_node : List (List ℕ) → Option Reached → Meaning
@@ -293,20 +299,20 @@ abbrev pub part_callee : Kind → Part → Callee
 part_callee (k.Of s) a = callee.Variable s a.depth
 part_callee _ a = callee.Other
 
-abbrev pub thing_callee : Thing → Option Callee
-thing_callee (t.Procedure x) = Some (callee.Procedure x.sort)
-thing_callee (t.Resident x s) = Some (callee.Resident x s)
-thing_callee (t.Standard x) = Some (callee.Standard x)
-thing_callee (t.Constant kind) = Some callee.Other
-thing_callee (t.Named n c) = Some callee.Other
-thing_callee t.Nil = Some callee.Other
-thing_callee _ = None
+abbrev pub thing_callee : Env → Thing → Option Callee
+thing_callee e (t.Procedure x) = Some (callee.Procedure x.sort x.number (levels_out e x.level))
+thing_callee e (t.Resident x s) = Some (callee.Resident x s)
+thing_callee e (t.Standard x) = Some (callee.Standard x)
+thing_callee e (t.Constant kind) = Some callee.Other
+thing_callee e (t.Named n c) = Some callee.Other
+thing_callee e t.Nil = Some callee.Other
+thing_callee e _ = None
 
-abbrev pub callee_node : Option Reached → Option Callee × List Row
-callee_node None = (None, [])
-callee_node (Some (reached.Part a)) = (Some (part_callee a.kind a), [])
+abbrev pub callee_node : Env → Option Reached → Option Callee × List Row
+callee_node e None = (None, [])
+callee_node e (Some (reached.Part a)) = (Some (part_callee a.kind a), [])
 -- 24 WrongKind
-callee_node (Some (reached.Other o)) = (thing_callee o.thing, row (is_misplaced o.thing) o.name WrongKind ∷ [])
+callee_node e (Some (reached.Other o)) = (thing_callee e o.thing, row (is_misplaced o.thing) o.name WrongKind ∷ [])
 
 -- ---- an argument that should be a type's name, at its first token
 abbrev pub type_in : Thing → Option ℕ

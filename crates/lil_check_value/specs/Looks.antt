@@ -12,14 +12,14 @@ use Rattle.lil_check_value.specs.declared.names.Looked.{Looked, TheVariants.{Not
 
 -- ---- phrases whose form isn't built
 
--- 90 NotBuilt, at the phrase's first token: it means the same, and has this row before its own
-unfoldable pub not_built : {A : Type 0} → Place → A × List Row → A × List Row
-not_built p m = (m.0, row true p NotBuilt ∷ m.1)
+-- 90 NotBuilt, at the phrase's first token, where its form isn't built: it means the same, and has this row before its own
+unfoldable pub not_built : {A : Type 0} → Bool → Place → A × List Row → A × List Row
+not_built b p m = (m.0, row b p NotBuilt ∷ m.1)
 
 module _ {A : Type 0} where
-  pub said_not_built : (p : Place) {m : A × List Row} {r u s : Option Fault} {a : A} → u ≡ noted r (row true p NotBuilt) → Said m u a s → Said (not_built p m) r a s
+  pub said_not_built : (b : Bool) (p : Place) {m : A × List Row} {r u s : Option Fault} {a : A} → u ≡ noted r (row b p NotBuilt) → Said m u a s → Said (not_built b p m) r a s
   unfolding not_built tell
-  said_not_built p {m = m} is h = record { value = h.value; told = h.told ∙ ap (λ u. tell u m.1) is }
+  said_not_built b p {m = m} is h = record { value = h.value; told = h.told ∙ ap (λ u. tell u m.1) is }
 
 -- ---- the nearest WITH whose record has a field of this name comes before all declarations
 abbrev pub nearer : Option FieldAt → ℕ → Looked → Looked

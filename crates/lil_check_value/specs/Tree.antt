@@ -69,7 +69,7 @@ module _ (L : (A : Type 0) → (A → Type 0) → A × List Row → Type 0) (e :
     pub used : (o : Option Reached) → T.reached o → L (Option Found) T.value (value_node e.texts o)
     pub typed : (p : Place) (o : Option Reached) → T.reached o → L Argument T.argument (typed_node p o)
     pub given : (a : Option Found) → T.value a → T.argument (argument.Value a)
-    pub called : (o : Option Reached) → T.reached o → L (Option Callee) T.callee (callee_node o)
+    pub called : (o : Option Reached) → T.reached o → L (Option Callee) T.callee (callee_node e o)
     pub call : (p : Place) (c : Option Callee) (xs : List Argument) → T.callee c → AllFine T.argument xs → L (Option Found) T.value (call_node e.types p c xs)
     pub begun_at : (p : Place) (a : Option Found) → T.value a → T.value (begun_at p a)
 
@@ -111,7 +111,7 @@ module _ (L : (A : Type 0) → (A → Type 0) → A × List Row → Type 0) (lif
 
   called_true : (p : Place) (d : Way) (ss : List Sense) → WayTrue d → AllFine SenseTrue ss → L (Option Found) T.value (called e p d ss)
   called_true p d ss w h =
-      lifts.then _ _ T.callee T.value _ _ (lifts.then _ _ T.reached T.callee (d.reach d.first) callee_node (w d.first) (λ o j. N.called o j)) (λ c k. call_of_true p d.first c ss k h)
+      lifts.then _ _ T.callee T.value _ _ (lifts.then _ _ T.reached T.callee (d.reach d.first) (callee_node e) (w d.first) (λ o j. N.called o j)) (λ c k. call_of_true p d.first c ss k h)
 
   -- ---- chains, sets, indexes
   chain_true : (p : Place) (a : Meaning) (os : List Operates) → L (Option Found) T.value a → AllFine OperatesTrue os → L (Option Found) T.value (chain_means p a os)
@@ -292,5 +292,5 @@ module _ (L : (A : Type 0) → (A → Type 0) → A × List Row → Type 0) (lif
   pub call_true : (V : Option RStmt → Type 0) → ((p : Place) (c : Option Callee) (xs : List Argument) → T.callee c → AllFine T.argument xs → L (Option RStmt) V (statement_node e.types p c xs)) → (d : Designator) (xs : List Expr) → L (Option RStmt) V (call_means e d xs)
   unfolding call_means
   call_true V node d xs =
-      lifts.then _ _ T.callee V _ _ (lifts.then _ _ T.reached T.callee (reach_means e (begins d) d) callee_node (reach_true d) (λ o h. N.called o h))
+      lifts.then _ _ T.callee V _ _ (lifts.then _ _ T.reached T.callee (reach_means e (begins d) d) (callee_node e) (reach_true d) (λ o h. N.called o h))
       (λ c k. lifts.then _ _ (AllFine T.argument) V (arguments_mean e (asks c) xs) (statement_node e.types (begins d) c) (arguments_true (asks c) xs) (λ given h. node (begins d) c given k h))

@@ -97,7 +97,7 @@ abbrev pub call_of : Env → Place → Place → Option Callee → List Sense �
 call_of e p q c ss = after (after (given (asks c) ss) (λ as'. call_node e.types q c as')) (λ o. (begun_at p o, []))
 
 abbrev pub called : Env → Place → Way → List Sense → Meaning
-called e p d ss = after (after (d.reach d.first) callee_node) (λ c. call_of e p d.first c ss)
+called e p d ss = after (after (d.reach d.first) (callee_node e)) (λ c. call_of e p d.first c ss)
 
 -- ---- all forms
 abbrev pub of_value : Meaning → Sense
@@ -206,4 +206,4 @@ unfoldable pub variable_means : Env → Designator → Option Found × List Row
 variable_means e d = after (reach_means e (begins d) d) variable_node
 
 unfoldable pub call_means : Env → Designator → List Expr → Option RStmt × List Row
-call_means e d xs = after (after (reach_means e (begins d) d) callee_node) (λ c. after (arguments_mean e (asks c) xs) (statement_node e.types (begins d) c))
+call_means e d xs = after (after (reach_means e (begins d) d) (callee_node e)) (λ c. after (arguments_mean e (asks c) xs) (statement_node e.types (begins d) c))

@@ -8,7 +8,7 @@ use lil_call::{Argument, Callee};
 use lil_kinds::{Form, Found, Located};
 use lil_operators::{constant_found, plain_found};
 use lil_report::Report;
-use lil_scope::{Kind, Routine, Thing};
+use lil_scope::{Env, Kind, Routine, Thing, levels_out};
 use lil_types::TypeId;
 
 fn located_form(of: Option<Located>) -> Form
@@ -41,6 +41,12 @@ fn no_value(of: Thing) -> bool
         Thing::Standard(_) => true,
         _ => false,
     }
+}
+
+fn is_procedure(of: Thing) -> bool
+    ensures { result ≡ spec.is_procedure of }
+{
+    matches!(of, Thing::Procedure(_))
 }
 
 fn routine_found(first: Place, of: Routine) -> Option<Found>
@@ -93,6 +99,7 @@ fn named_value(
 {
     report.note(is_misplaced(of.thing), of.name, FaultKind::WrongKind);
     report.note(no_value(of.thing), of.name, FaultKind::ProcValue);
+    report.note(is_procedure(of.thing), of.name, FaultKind::NotBuilt);
     let found = thing_found(texts, of.first, of.thing)?;
     Ok(found)
 }
@@ -137,11 +144,14 @@ fn part_callee(of: Part) -> Callee
     }
 }
 
-fn thing_callee(of: Thing) -> Option<Callee>
-    ensures { result ≡ spec.thing_callee of }
+fn thing_callee(env: &Env, of: Thing) -> Option<Callee>
+    ensures { result ≡ spec.thing_callee env.now of }
 {
     match of {
-        Thing::Procedure(routine) => Some(Callee::Procedure(routine.sort)),
+        Thing::Procedure(routine) => {
+            let levels = levels_out(env, routine.level);
+            Some(Callee::Procedure(routine.sort, routine.number, levels))
+        }
         Thing::Resident(resident, sort) => Some(Callee::Resident(resident, sort)),
         Thing::Standard(standard) => Some(Callee::Standard(standard)),
         Thing::Constant(_) => Some(Callee::Other),
@@ -153,15 +163,15 @@ fn thing_callee(of: Thing) -> Option<Callee>
 
 /// What a designator reaches, as what is called.
 #[tactic(auto, unfolding(lil_report::specs::Told::tell))]
-pub(crate) fn callee_node(report: &mut Report, of: Option<Reached>) -> Option<Callee>
-    ensures { Said (spec.callee_node of) report.old result report.new }
+pub(crate) fn callee_node(env: &Env, report: &mut Report, of: Option<Reached>) -> Option<Callee>
+    ensures { Said (spec.callee_node env.now of) report.old result report.new }
 {
     match of {
         None => None,
         Some(Reached::Part(part)) => Some(part_callee(part)),
         Some(Reached::Other(named)) => {
             report.note(is_misplaced(named.thing), named.name, FaultKind::WrongKind);
-            thing_callee(named.thing)
+            thing_callee(env, named.thing)
         }
     }
 }

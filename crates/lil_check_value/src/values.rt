@@ -281,7 +281,7 @@ pub fn expression(
             let named = designator.get();
             let begin = named.first.place;
             let of = reached(alloc, env, report, begin, named)?;
-            let callee = callee_node(report, of);
+            let callee = callee_node(env, report, of);
             let asked = asks(&callee);
             let all = all_arguments(alloc, env, report, asked, actuals.as_slice());
             let (callee, all) = beside(callee, all)?;
@@ -379,7 +379,7 @@ pub fn call(
 {
     let begin = of.first.place;
     let found = reached(alloc, env, report, begin, of)?;
-    let callee = callee_node(report, found);
+    let callee = callee_node(env, report, found);
     let asked = asks(&callee);
     let all = all_arguments(alloc, env, report, asked, arguments.as_slice());
     let (callee, all) = beside(callee, all)?;

@@ -1,4 +1,4 @@
-use lil_base::Name;
+use lil_base::{Items, Name};
 use lil_types::TypeId;
 
 /// Whether a variable is a parameter, and how it is handed over: a value, a place, or an open array as the one or the
@@ -22,11 +22,13 @@ pub struct RVar {
     pub owner: Option<usize>,
 }
 
-/// A procedure: its name, the procedure that declares it, if it isn't the module, and its procedure type. Its parameters
-/// are the first of its variables.
+/// A procedure: its name; the number of its block, and those of the blocks around it, the outermost first; the procedures around
+/// it by their numbers, the innermost first; and its procedure type. Its parameters are the first of its variables.
 #[derive(Drop)]
 pub struct RProc {
     pub name: Name,
-    pub outer: Option<usize>,
+    pub block: usize,
+    pub outer: Items<usize>,
+    pub around: Items<usize>,
     pub sort: TypeId,
 }

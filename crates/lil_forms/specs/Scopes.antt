@@ -36,9 +36,10 @@ pub record Fits (t : Table) (vs : List RVar) (around : List ℕ) (ts : Scope) : 
   pub variables : all_some (map (lying shapes) vs) ≡ Some ts.variables
   pub held : AreHeld shapes around ts.held
 
--- outside of all WITHs it is what lies in the variables
-pub outside : (t : Table) (vs : List RVar) (shapes lies : List Shape) → shaping.shapes t ≡ Some shapes → variables_by (Some shapes) vs ≡ Some lies → Fits t vs [] (outermost (targets t shapes) lies)
-outside t vs shapes lies types variables = record {
+-- outside of all WITHs it is what lies in the variables, whatever procedures there are
+pub outside : (t : Table) (vs : List RVar) (shapes lies : List Shape) (procedures : List (List ℕ)) (chain : List ℕ) → shaping.shapes t ≡ Some shapes → variables_by (Some shapes) vs ≡ Some lies
+    → Fits t vs [] (outermost (targets t shapes) lies procedures chain)
+outside t vs shapes lies procedures chain types variables = record {
   shapes = shapes;
   types = types;
   targets = refl;

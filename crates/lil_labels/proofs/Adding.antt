@@ -1,19 +1,21 @@
 -- Bytes that are added to a draft.
-use Rattle.std.proofs.Common.{◌≡◌, ℕ, ◌+◌, List, [], ◌∷◌, ◌++◌, length, Option, refl, sym, ap, ◌∙◌, subst, arith, length-append, append-nil, append_assoc}
+use Rattle.std.proofs.Common.{◌≡◌, ℕ, ◌+◌, ◌≤◌, List, [], ◌∷◌, ◌++◌, length, Option, Some, refl, sym, ap, ◌∙◌, subst, arith, length-append, append-nil}
 use Rattle.std.specs.Prelude.{slice_get}
+use Rattle.std.proofs.lemmas.Option.{slice_get_within}
 use Rattle.lil_base.specs.Fields.{bytes16}
 use Rattle.lil_asm.specs.{declared.instr.Instr.{Instr, TheVariants.{Jmp, Jpf, Jan, Jor, Fri, Frn}}, Bytes.{bytes_of, Sayable}, Standing.{HasBytes, appended_has, decodes}}
-use Rattle.lil_labels.specs.{declared.buffer.{Jump.Jump, Aim.Aim}, Tables.Tables, Drafts.{Draft, AreInside, written, code_of, Final, Meaning, Emits, Doing, Notes, aimed}, Settling.{written_long, written_before, written_last}}
+use Rattle.lil_labels.specs.{declared.buffer.{Jump.Jump, Aim.Aim}, Entries.get_front, Tables.Tables, Drafts.{Draft, AreInside, written, code_of, Final, Meaning, Emits, Doing, Notes, aimed}, Settling.{written_long, written_before, written_last}}
 use Rattle.lil_labels.specs.declared.buffer.Aim.TheVariants as aim
 
-has_front : (code : List ℕ) (p : ℕ) (a b : List ℕ) → HasBytes code p (a ++ b) → HasBytes code p a
-has_front code p [] b h = tt
-has_front code p (x ∷ a) b h = (h.0, has_front code (p + 1) a b h.1)
+has_kept : (bytes code final : List ℕ) (p : ℕ) → HasBytes code p bytes → ((j b : ℕ) → p ≤ j → slice_get code j ≡ Some b → slice_get final j ≡ Some b) → HasBytes final p bytes
+has_kept [] code final p h same = tt
+has_kept (x ∷ bytes) code final p h same = (same p x (omega arith) h.0, has_kept bytes code final (p + 1) h.1 (λ j b low at. same j b (omega (arith, low)) at))
 
 -- bytes more, whose meaning is known wherever they stand
 emits_bytes : (old new : Draft) (more : (ℕ → ℕ) → List ℕ) (T : Meaning) → new.tables ≡ old.tables → new.strings ≡ old.strings → new.places ≡ old.places → ((word : ℕ → ℕ) → code_of new word ≡ code_of old word ++ more word)
     → ((x : Final) → HasBytes x.code (length old.bytes) (more x.word) → T x (length old.bytes) (length old.bytes + length (more x.word))) → Emits old new T
 emits_bytes old new more T tables strings same added f = record {
+  grows = omega (arith, longer (λ l. 0));
   same = tables;
   strings = strings ∙ sym (append-nil old.strings);
   keeps = λ l h. ap (λ (ps : List (Option ℕ)). slice_get ps l) same ∙ h;
@@ -22,17 +24,19 @@ emits_bytes old new more T tables strings same added f = record {
     same = fits.same ∙ tables;
     more = fits.more;
     strings = fits.strings ∙ ap (λ (ws : List ℕ). ws ++ fits.more) strings;
-    rest = more x.word ++ fits.rest;
-    begins = fits.begins ∙ ap (λ (c : List ℕ). c ++ fits.rest) (added x.word) ∙ append_assoc (code_of old x.word) (more x.word) fits.rest;
+    bytes = λ j b low at. fits.bytes j b low (ap (λ (c : List ℕ). slice_get c j) (added x.word) ∙ get_front (code_of old x.word) (more x.word) j (slice_get_within (code_of old x.word) j b at) ∙ at);
+    long = omega (arith, fits.long, longer x.word);
     placed = λ l q h. fits.placed l q (ap (λ (ps : List (Option ℕ)). slice_get ps l) same ∙ h);
   };
-  meant = λ x fits.
+  meant = λ x fits low.
       let code = code_of old x.word in
-      let ends : length old.bytes + length (more x.word) ≡ length new.bytes = omega (arith, ap length (added x.word), length-append code (more x.word), written_long x.word old.bytes old.jumps, written_long x.word new.bytes new.jumps) in
-      let all : x.code ≡ code ++ (more x.word ++ fits.rest) = fits.begins ∙ ap (λ (c : List ℕ). c ++ fits.rest) (added x.word) ∙ append_assoc code (more x.word) fits.rest in
-      let has = has_front x.code (length code) (more x.word) fits.rest (subst (λ (c : List ℕ). HasBytes c (length code) (more x.word ++ fits.rest)) (sym all) (appended_has (more x.word ++ fits.rest) code)) in
-      subst (λ (q : ℕ). T x (length old.bytes) q) ends (f x (subst (λ (p : ℕ). HasBytes x.code p (more x.word)) (written_long x.word old.bytes old.jumps) has));
+      let long = written_long x.word old.bytes old.jumps in
+      let has = has_kept (more x.word) (code ++ more x.word) x.code (length code) (appended_has (more x.word) code) (λ j b above at. fits.bytes j b (omega (arith, low, long, above)) (ap (λ (c : List ℕ). slice_get c j) (added x.word) ∙ at)) in
+      subst (λ (q : ℕ). T x (length old.bytes) q) (longer x.word) (f x (subst (λ (p : ℕ). HasBytes x.code p (more x.word)) long has));
 }
+  where
+    longer : (word : ℕ → ℕ) → length old.bytes + length (more word) ≡ length new.bytes
+    longer word = omega (arith, ap length (added word), length-append (code_of old word) (more word), written_long word old.bytes old.jumps, written_long word new.bytes new.jumps)
 
 module _ (tables : Tables) (strings bytes new : List ℕ) (places : List (Option ℕ)) (js : List Jump) (old : Draft) (view : record { tables = tables; strings = strings; bytes = bytes; places = places; jumps = js } ≡ old) (inside : AreInside (length bytes) js) where
   abbrev first : Draft

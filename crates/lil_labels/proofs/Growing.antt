@@ -18,12 +18,13 @@ module _ (tables : Tables) (strings bytes : List ℕ) (places more : List (Optio
   label_emits =
       subst (λ (d : Draft). Emits d labelled Nothing) view
       (record {
+        grows = omega arith;
         same = refl;
         strings = sym (append-nil strings);
         keeps = λ l h. kept l None h;
         made = omega (arith, ap (λ (ps : List (Option ℕ)). length ps) is, length-append places (None ∷ []));
-        back = λ x fits. record { same = fits.same; more = fits.more; strings = fits.strings; rest = fits.rest; begins = fits.begins; placed = λ l q h. fits.placed l q (kept l (Some q) h) };
-        meant = λ x fits. refl;
+        back = λ x fits. record { same = fits.same; more = fits.more; strings = fits.strings; bytes = fits.bytes; long = fits.long; placed = λ l q h. fits.placed l q (kept l (Some q) h) };
+        meant = λ x fits low. refl;
       })
 
   pub label_made : (l : ℕ) → l ≡ length places → Makes old labelled l
@@ -70,6 +71,7 @@ module _ (tables : Tables) (strings bytes all : List ℕ) (places : List (Option
       let grown : all ≡ strings ++ words_of cs = is ∙ ap (λ (ws : List ℕ). strings ++ ws) made in
       subst (λ (d : Draft). Adds (words_of cs) d said (Saying cs offset)) view
       (record {
+        grows = omega arith;
         same = refl;
         strings = grown;
         keeps = λ l h. h;
@@ -78,11 +80,11 @@ module _ (tables : Tables) (strings bytes all : List ℕ) (places : List (Option
           same = fits.same;
           more = words_of cs ++ fits.more;
           strings = fits.strings ∙ ap (λ (ws : List ℕ). ws ++ fits.more) grown ∙ append_assoc strings (words_of cs) fits.more;
-          rest = fits.rest;
-          begins = fits.begins;
+          bytes = fits.bytes;
+          long = fits.long;
           placed = fits.placed;
         };
-        meant = λ x fits. (
+        meant = λ x fits low. (
           refl,
           text_stands x.layout strings fits.more cs offset x.room
               (fits.strings ∙ ap (λ (ws : List ℕ). ws ++ fits.more) grown ∙ append_assoc strings (words_of cs) fits.more)

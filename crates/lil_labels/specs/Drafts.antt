@@ -51,38 +51,44 @@ code_of d word = written word d.bytes d.jumps
 abbrev pub IsOpen : Draft → ℕ → Type 0
 IsOpen d l = slice_get d.places l ≡ Some None
 
--- A final code, the tables that describe its layout, and the word that each label has there. The offsets of its data are words. Numbers up
--- to the words of its frame and its bytes are written cut to 16 bits, where they aren't lower.
+-- A final code from a place on, the tables that describe its layout, and the word that each label has there. The offsets of its data are
+-- words. Numbers up to the words of its frame and its bytes are written cut to 16 bits, where they aren't lower.
 pub record Final : Type 0 where
   pub tables : Tables
   pub layout : Layout
   pub described : Describe tables layout
   pub room : layout.words + length layout.strings ≤ 65535
   pub word : ℕ → ℕ
+  pub from : ℕ
   pub code : List ℕ
   pub cuts : (n : ℕ) → n ≤ layout.frame + length code → layout.target n ≡ n % 65536
 
--- the final code begins with this one, of the same module, its strings begin with these, and its labels have their places
+-- code has these bytes from a place on
+abbrev pub HasFrom : ℕ → List ℕ → List ℕ → Type 0
+HasFrom from code bytes = (j b : ℕ) → from ≤ j → slice_get bytes j ≡ Some b → slice_get code j ≡ Some b
+
+-- the final code has the bytes of this one, of the same module, its strings begin with these, and its labels have their places
 pub record Fits (d : Draft) (x : Final) : Type 0 where
   pub same : x.tables ≡ d.tables
   pub more : List ℕ
   pub strings : x.layout.strings ≡ d.strings ++ more
-  pub rest : List ℕ
-  pub begins : x.code ≡ code_of d x.word ++ rest
+  pub bytes : HasFrom x.from x.code (code_of d x.word)
+  pub long : length d.bytes ≤ length x.code
   pub placed : (l q : ℕ) → slice_get d.places l ≡ Some (Some q) → x.word l ≡ x.layout.target q
 
 -- what is said of a final code from one place to another
 abbrev pub Meaning : Type 1
 Meaning = Final → Span
 
--- What was added means this in each final code, has these words of strings, and places no label that was made before.
+-- What was added means this in each final code that begins before it, has these words of strings, and places no label that was made before.
 pub record Adds (words : List ℕ) (old new : Draft) (T : Meaning) : Type 0 where
+  pub grows : length old.bytes ≤ length new.bytes
   pub same : new.tables ≡ old.tables
   pub strings : new.strings ≡ old.strings ++ words
   pub keeps : (l : ℕ) → IsOpen old l → IsOpen new l
   pub made : length old.places ≤ length new.places
   pub back : (x : Final) → Fits new x → Fits old x
-  pub meant : (x : Final) → Fits new x → T x (length old.bytes) (length new.bytes)
+  pub meant : (x : Final) → Fits new x → x.from ≤ length old.bytes → T x (length old.bytes) (length new.bytes)
 
 -- what has no strings
 abbrev pub Emits : Draft → Draft → Meaning → Type 0

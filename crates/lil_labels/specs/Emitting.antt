@@ -7,22 +7,23 @@ use Rattle.lil_table.specs.Rows.{holding}
 use Rattle.lil_labels.specs.{declared.buffer.HeldRecord.HeldRecord, Tables.{Tables, shape_held}, Drafts.{Draft, inside, outside, written, code_of, IsOpen, Final, Fits, Meaning, Adds, Emits, Nothing, Each, Marking, Places, Ends}, Settling.written_long}
 
 pub emits_none : (d : Draft) → Emits d d Nothing
-emits_none d = record { same = refl; strings = sym (append-nil d.strings); keeps = λ l h. h; made = omega arith; back = λ x fits. fits; meant = λ x fits. refl }
+emits_none d = record { grows = omega arith; same = refl; strings = sym (append-nil d.strings); keeps = λ l h. h; made = omega arith; back = λ x fits. fits; meant = λ x fits low. refl }
 
 -- a piece behind a piece
 pub emits_then : {us vs : List ℕ} (a b c : Draft) (T U : Meaning) → Adds us a b T → Adds vs b c U → Adds (us ++ vs) a c (λ x p q. T x p (length b.bytes) × U x (length b.bytes) q)
 emits_then {us = us} {vs = vs} a b c T U t u = record {
+  grows = omega (arith, t.grows, u.grows);
   same = u.same ∙ t.same;
   strings = u.strings ∙ ap (λ (ws : List ℕ). ws ++ vs) t.strings ∙ append_assoc a.strings us vs;
   keeps = λ l h. u.keeps l (t.keeps l h);
   made = omega (arith, t.made, u.made);
   back = λ x fits. t.back x (u.back x fits);
-  meant = λ x fits. (t.meant x (u.back x fits), u.meant x fits);
+  meant = λ x fits low. (t.meant x (u.back x fits) low, u.meant x fits (omega (arith, low, t.grows)));
 }
 
 -- the same piece with another meaning that follows in a final code that fits
 emits_fits : {ws : List ℕ} (a b : Draft) (T U : Meaning) → ((x : Final) → Fits b x → T x (length a.bytes) (length b.bytes) → U x (length a.bytes) (length b.bytes)) → Adds ws a b T → Adds ws a b U
-emits_fits a b T U f t = record { same = t.same; strings = t.strings; keeps = t.keeps; made = t.made; back = t.back; meant = λ x fits. f x fits (t.meant x fits) }
+emits_fits a b T U f t = record { grows = t.grows; same = t.same; strings = t.strings; keeps = t.keeps; made = t.made; back = t.back; meant = λ x fits low. f x fits (t.meant x fits low) }
 
 pub emits_as : {ws : List ℕ} (a b : Draft) (T U : Meaning) → ((x : Final) → T x (length a.bytes) (length b.bytes) → U x (length a.bytes) (length b.bytes)) → Adds ws a b T → Adds ws a b U
 emits_as a b T U f = emits_fits a b T U (λ x fits. f x)
@@ -37,7 +38,7 @@ emits_tied a b T t = emits_fits a b T _ (λ x fits h. (h, fits.same ∙ t.same))
 
 -- it lies within the final code
 pub emits_within : {ws : List ℕ} (a b : Draft) (T : Meaning) → Adds ws a b T → Adds ws a b (λ x p q. T x p q × (q ≤ length x.code))
-emits_within a b T = emits_fits a b T _ (λ x fits h. (h, omega (arith, ap length fits.begins, length-append (code_of b x.word) fits.rest, written_long x.word b.bytes b.jumps)))
+emits_within a b T = emits_fits a b T _ (λ x fits h. (h, fits.long))
 
 set_get : (xs : List (Option ℕ)) (l : ℕ) (v : Option ℕ) → l < length xs → slice_get (slice_set xs l v) l ≡ Some v
 set_get [] l v h = absurd (omega arith)
@@ -68,8 +69,8 @@ ends_here b c l put =
         same = fits.same ∙ put.tables;
         more = fits.more;
         strings = fits.strings ∙ ap (λ (ws : List ℕ). ws ++ fits.more) put.strings;
-        rest = fits.rest;
-        begins = fits.begins ∙ ap (λ (code : List ℕ). code ++ fits.rest) (same x.word);
+        bytes = λ j b low h. fits.bytes j b low (ap (λ (code : List ℕ). slice_get code j) (same x.word) ∙ h);
+        long = omega (arith, fits.long, ap length put.bytes);
         placed = λ k q h. fits.placed k q (other k (λ (e : k ≡ l). cc (h, e, put.was)) ∙ h);
       };
       named = λ x fits. fits.placed l (length b.bytes) (at l ∙ set_get b.places l place (slice_get_within b.places l None put.was)) ∙ ap x.layout.target (sym (ap length put.bytes));
@@ -78,12 +79,13 @@ ends_here b c l put =
 -- a label that was made in the piece gets its place at the end of it
 pub emits_here : {ws : List ℕ} (a b c : Draft) (T : Meaning) (l : ℕ) → Adds ws a b T → ((k : ℕ) → IsOpen a k → k ≢ l) → Ends b c l → Adds ws a c (λ x p q. T x p q × (x.word l ≡ x.layout.target q))
 emits_here a b c T l t apart end = record {
+  grows = omega (arith, t.grows, end.long);
   same = end.same ∙ t.same;
   strings = end.strings ∙ t.strings;
   keeps = λ k h. end.keeps k (apart k h) (t.keeps k h);
   made = omega (arith, t.made, end.made);
   back = λ x fits. t.back x (end.back x fits);
-  meant = λ x fits. (subst (λ (q : ℕ). T x (length a.bytes) q) (sym end.long) (t.meant x (end.back x fits)), end.named x fits);
+  meant = λ x fits low. (subst (λ (q : ℕ). T x (length a.bytes) q) (sym end.long) (t.meant x (end.back x fits) low), end.named x fits);
 }
 
 -- a piece behind a new label
@@ -130,6 +132,7 @@ inside_of h x = record {
   };
   room = x.room;
   word = x.word;
+  from = x.from;
   code = x.code;
   cuts = x.cuts;
 }
@@ -147,19 +150,20 @@ emits_inside {ws = ws} h a b c d T enter t leave =
           same = ap (λ (ts : Tables). record ts { held = h ∷ ts.held }) (fits.same ∙ restored) ∙ sym t.same;
           more = fits.more;
           strings = fits.strings;
-          rest = fits.rest;
-          begins = fits.begins;
+          bytes = fits.bytes;
+          long = fits.long;
           placed = fits.placed;
         } in
         record {
+          grows = t.grows;
           same = restored;
           strings = t.strings;
           keeps = t.keeps;
           made = t.made;
           back = λ x fits.
               let earlier = t.back (inside_of h x) (within x fits) in
-              record { same = fits.same ∙ restored; more = earlier.more; strings = earlier.strings; rest = earlier.rest; begins = earlier.begins; placed = earlier.placed };
-          meant = λ x fits. t.meant (inside_of h x) (within x fits);
+              record { same = fits.same ∙ restored; more = earlier.more; strings = earlier.strings; bytes = earlier.bytes; long = earlier.long; placed = earlier.placed };
+          meant = λ x fits low. t.meant (inside_of h x) (within x fits) low;
         }
 
 -- what follows from what holds at an Ok

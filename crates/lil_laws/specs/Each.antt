@@ -19,7 +19,7 @@ place_quiet d e = cc
 
 module _ (ctx : Setting) where
   open ctx use {library, table, home as h}
-  open frame_of ctx use {own, number}
+  open frame_of ctx use {own, piece, number}
 
   module _ (s : Source) (k : List Item) (m : State) (c : ℕ) (a : Around) (shared : Shared ctx s m) where
     -- a value goes into a hole
@@ -130,7 +130,7 @@ module _ (ctx : Setting) where
 
   module _ (s : Source) (m : State) (c : ℕ) (a : Around) (shared : Shared ctx s m) where
     -- what goes from where the jumps lead
-    from_there : (k : List Item) (row : Reach) (t : Mode) (stack : List ℕ) (r : AfterJumps own.code row t m.place stack c a)
+    from_there : (k : List Item) (row : Reach) (t : Mode) (stack : List ℕ) (r : AfterJumps piece row t m.place stack c a)
         → Goes ctx s k (going m r.start m.stack) (r.later + 32) → Goes ctx s k m (c + 32)
     from_there k row t stack r goes = jumped ctx s k r.jumps m r.start (c + 32) (r.later + 32) shared.program r.way goes (omega (arith, r.count))
 

@@ -1,5 +1,6 @@
 pub mod Alone
 pub mod Each
+pub mod Entries
 pub mod Loading
 pub mod Placing
 pub mod Reaching

@@ -1,31 +1,29 @@
 -- The machine after modules were loaded: their data from word 1 one behind another, and the first body begun.
-use Rattle.std.specs.Prelude.{◌≡◌, ◌⊎◌, true, ℕ, suc, ◌+◌, ◌<◌, List, [], ◌∷◌, length, Option, None, Some, slice_get}
+use Rattle.std.specs.Prelude.{◌≡◌, ◌⊎◌, true, ℕ, suc, ◌+◌, ◌<◌, List, [], ◌∷◌, length, Option, None, Some}
 use Rattle.lil_base.specs.declared.fault.LimitKind.{LimitKind}
 use Rattle.lil_base.specs.declared.fault.LimitKind.TheVariants as limit
-use Rattle.lil_resolved.specs.{Kinds.all_words, Sizes.frame_words, Resolved.{Procedure, Resolved, procedure_by}}
+use Rattle.lil_resolved.specs.{Kinds.all_words, Resolved.{Procedure, Resolved}}
 use Rattle.lil_meaning.specs.{Items.{Source, heap_words}, Need.chain_of, Steps.next}
 use Rattle.lil_mcode.specs.{Table.{Module, State}, Calls.{Machine, fresh, with_level, with_module, with_words, with_bodies}}
 use Rattle.lil_frames.specs.Words.{spliced, zeros, cleared}
-use Rattle.lil_table.specs.Rows.{ProcedureRow, Translates, layout_of}
+use Rattle.lil_table.specs.Rows.{Translates}
 
--- the code of a procedure at its entry in the table
-pub record EntryRow (text : Resolved) (strings code : List ℕ) (procedures : List (ℕ × Option (List ℕ))) (p : ℕ) (its : Procedure) : Type 0 where
-  pub entry : ℕ
-  pub there : slice_get procedures p ≡ Some (entry, Some its.name)
-  pub row : ProcedureRow (record (layout_of strings text) { frame = frame_words its.body; chain = p ∷ its.around }) code its entry
-
--- A text with the words of its strings, its code and the table of its procedures, of which the body is the first and stands at the beginning.
+-- A text with the words of its strings, where each procedure begins, and its code.
 pub record Compiled : Type 0 where
   pub text : Resolved
   pub strings : List ℕ
+  pub entries : List ℕ
   pub code : List ℕ
-  pub procedures : List (ℕ × Option (List ℕ))
-  pub body : slice_get procedures 0 ≡ Some (0, None)
-  pub translates : Translates text strings code
+  pub translates : Translates text strings entries code
 
--- each procedure has its code
-abbrev pub HasEntries : Compiled → Type 0
-HasEntries o = (p : ℕ) (its : Procedure) → procedure_by o.text.procedures p ≡ Some its → EntryRow o.text o.strings o.code o.procedures p its
+-- the table of procedures: the body, which has no name and stands at the beginning, and behind it each with its entry and its name
+abbrev pub named_entries : List Procedure → List ℕ → List (ℕ × Option (List ℕ))
+named_entries [] es = []
+named_entries (p ∷ ps) [] = []
+named_entries (p ∷ ps) (e ∷ es) = (e, Some p.name) ∷ named_entries ps es
+
+abbrev pub procedure_table : Resolved → List ℕ → List (ℕ × Option (List ℕ))
+procedure_table m entries = (0, None) ∷ named_entries m.procedures entries
 
 abbrev pub text_of : Compiled → Resolved
 text_of o = o.text
@@ -40,7 +38,7 @@ data_end base (o ∷ os) = data_end (base + data_of o) os
 
 -- their entries in the table of the machine
 abbrev pub entry_for : Compiled → ℕ → Module
-entry_for o base = record { name = o.text.name; procedures = o.procedures; code = o.code; base = base; words = data_of o }
+entry_for o base = record { name = o.text.name; procedures = procedure_table o.text o.entries; code = o.code; base = base; words = data_of o }
 
 abbrev pub table_from : ℕ → List Compiled → List Module
 table_from base [] = []
@@ -84,10 +82,6 @@ pub record IsSpent (p : Resolved) (strings : List ℕ) (k : LimitKind) (t : Sour
   pub kind : ((k ≡ limit.Stack) × (1 < length (next (p ∷ []) t).activations)) ⊎ (k ≡ limit.Store)
   pub short : 65535 < 1 + (all_words p.variables + length strings) + chain_of (p ∷ []) (next (p ∷ []) t) + heap_words (next (p ∷ []) t).objects (next (p ∷ []) t).workspaces
 
--- a body alone, at the beginning of the code
-abbrev pub body_alone : List (ℕ × Option (List ℕ))
-body_alone = (0, None) ∷ []
-
-abbrev pub loaded : Resolved → (strings code : List ℕ) → Machine
-loaded p strings code =
-    with_bodies (with_words (with_module (with_level fresh) p.name body_alone code (all_words p.variables + length strings)) (1 + all_words p.variables) strings) (1 ∷ [])
+abbrev pub loaded : Resolved → (strings entries code : List ℕ) → Machine
+loaded p strings entries code =
+    with_bodies (with_words (with_module (with_level fresh) p.name (procedure_table p entries) code (all_words p.variables + length strings)) (1 + all_words p.variables) strings) (1 ∷ [])

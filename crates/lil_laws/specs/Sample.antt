@@ -2,11 +2,11 @@
 use Rattle.std.proofs.Common.{◌≡◌, ℕ, zero, suc, ◌+◌, ◌<◌, ◌≤◌, Option, Some, None, List, [], ◌∷◌, refl, sym, ap, subst, arith}
 use Rattle.std.proofs.lemmas.Option.{none-some, same_Some}
 use Rattle.lil_base.specs.declared.request.Request.TheVariants.{WriteLn}
-use Rattle.lil_resolved.specs.Resolved.{Procedure, Resolved, procedure_by, Request, Call, Empty, Then}
+use Rattle.lil_resolved.specs.Resolved.{Procedure, Resolved, Request, Call, Empty, Then}
 use Rattle.lil_meaning.specs.World.{World}
 use Rattle.lil_asm.specs.Bytes.{decoded, row_6, row_7}
 use Rattle.lil_table.specs.Rows.{Translates}
-use Rattle.lil_laws.specs.{Loading.{Compiled, EntryRow, HasEntries}, Start.Body}
+use Rattle.lil_laws.specs.{Loading.Compiled, Start.Body}
 use Rattle.lil_laws.specs.Start as all
 
 -- PROCEDURE P; PROCEDURE Q; BEGIN WriteLn END Q; BEGIN Q END P; BEGIN P END
@@ -22,77 +22,62 @@ text = record { name = 77 ∷ []; targets = []; names = []; variables = []; proc
 abbrev code : List ℕ
 code = 104 ∷ 0 ∷ 4 ∷ 97 ∷ 0 ∷ 101 ∷ 1 ∷ 0 ∷ 0 ∷ 106 ∷ 104 ∷ 0 ∷ 4 ∷ 97 ∷ 1 ∷ 101 ∷ 2 ∷ 0 ∷ 0 ∷ 106 ∷ 104 ∷ 0 ∷ 4 ∷ 125 ∷ 4 ∷ 106 ∷ []
 
-abbrev procedures : List (ℕ × Option (List ℕ))
-procedures = (0, None) ∷ (10, Some (80 ∷ [])) ∷ (20, Some (81 ∷ [])) ∷ []
-
-translates : Translates text [] code
+translates : Translates text [] (10 ∷ 20 ∷ []) code
 unfolding decoded row_6 row_7
 translates = record {
-  start = 3;
-  end = 9;
-  enter = refl;
+  middle = 10;
   body = record {
-    middle = 9;
-    here = record { its = outer; known = refl; declared = refl; middle = 5; mark = refl; call = refl };
-    then = refl;
-  };
-  after = 10;
-  leave = refl;
-  whole = λ bare. (let clash : outer ∷ inner ∷ [] ≡ [] = bare in cc);
-}
-
-outer_entry : EntryRow text [] code procedures 1 outer
-unfolding decoded row_6 row_7
-outer_entry = record {
-  entry = 10;
-  there = refl;
-  row = record {
-    start = 13;
-    end = 19;
-    after = 20;
+    start = 3;
+    end = 9;
     enter = refl;
     body = record {
-      middle = 19;
-      here = record { its = inner; known = refl; declared = (let less : 0 < 1 = omega arith in less, refl); middle = 15; mark = refl; call = refl };
+      middle = 9;
+      here = record { may = record { around = []; known = refl; declared = refl }; middle = 5; mark = refl; call = refl };
       then = refl;
     };
     leave = refl;
   };
-}
-
-inner_entry : EntryRow text [] code procedures 2 inner
-unfolding decoded row_6 row_7
-inner_entry = record {
-  entry = 20;
-  there = refl;
-  row = record {
-    start = 23;
-    end = 25;
-    after = 26;
-    enter = refl;
-    body = record {
-      middle = 25;
-      here = record { middle = 23; takes = refl; words = refl; arguments = refl; by = refl };
-      then = refl;
-    };
-    leave = refl;
-  };
+  procedures = (
+    refl,
+    record {
+      middle = 20;
+      here = record {
+        start = 13;
+        end = 19;
+        enter = refl;
+        body = record {
+          middle = 19;
+          here = record { may = record { around = 1 ∷ []; known = refl; declared = (let less : 0 < 1 = omega arith in less, refl) }; middle = 15; mark = refl; call = refl };
+          then = refl;
+        };
+        leave = refl;
+      };
+      then = (
+        refl,
+        record {
+          middle = 26;
+          here = record {
+            start = 23;
+            end = 25;
+            enter = refl;
+            body = record {
+              middle = 25;
+              here = record { middle = 23; takes = refl; words = refl; arguments = refl; by = refl };
+              then = refl;
+            };
+            leave = refl;
+          };
+          then = refl;
+        },
+      );
+    },
+  );
 }
 
 abbrev sample : Compiled
-sample = record { text = text; strings = []; code = code; procedures = procedures; body = refl; translates = translates }
+sample = record { text = text; strings = []; entries = 10 ∷ 20 ∷ []; code = code; translates = translates }
 
--- its procedures have their codes, so the whole run theorem holds of it
-entries : all.Entries (sample ∷ [])
-entries zero o e = subst HasEntries (same_Some sample o e) each
-  where
-    each : (p : ℕ) (its : Procedure) → procedure_by (outer ∷ inner ∷ []) p ≡ Some its → EntryRow text [] code procedures p its
-    each zero its there = cc
-    each (suc zero) its there = subst (EntryRow text [] code procedures 1) (same_Some outer its there) outer_entry
-    each (suc (suc zero)) its there = subst (EntryRow text [] code procedures 2) (same_Some inner its there) inner_entry
-    each (suc (suc (suc p))) its there = cc
-entries (suc i) o e = absurd (none-some o e)
-
+-- so the whole run theorem holds of it
 same : all.Pointing (sample ∷ []) []
 same zero o e = ap (λ (x : Compiled). x.text.targets) (sym (same_Some sample o e))
 same (suc i) o e = absurd (none-some o e)
@@ -100,5 +85,5 @@ same (suc i) o e = absurd (none-some o e)
 abbrev its_body : Body (sample ∷ [])
 its_body = record { index = 0; its = sample; there = refl }
 
-sample_correct : (w : World) (steps : ℕ) → all.Correct (sample ∷ []) [] same entries its_body [] (let room : 1 + 4 ≤ 65535 = omega arith in room) w steps
-sample_correct w steps = all.correct (sample ∷ []) [] same entries its_body [] (let room : 1 + 4 ≤ 65535 = omega arith in room) w steps
+sample_correct : (w : World) (steps : ℕ) → all.Correct (sample ∷ []) [] same its_body [] (let room : 1 + 4 ≤ 65535 = omega arith in room) w steps
+sample_correct w steps = all.correct (sample ∷ []) [] same its_body [] (let room : 1 + 4 ≤ 65535 = omega arith in room) w steps

@@ -29,7 +29,7 @@ pub record Serves (library : List Resolved) (s t : Source) : Type 0 where
 still : {library : List Resolved} {s t : Source} → t.world ≡ s.world → t.waiting ≡ s.waiting → t.activations ≡ s.activations → Serves library s t
 still world levels activations = record { world = inl world; first = λ none. levels ∙ none; same = λ bare none. activations }
 
-none_by : (n : ℕ) → procedure_by [] n ≡ None
+none_by : (n : ℕ) → procedure_by {A = Procedure} [] n ≡ None
 none_by zero = refl
 none_by (suc n) = refl
 

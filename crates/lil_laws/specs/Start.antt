@@ -1,27 +1,23 @@
 -- From loaded modules, whose bodies run one behind another.
 use Rattle.std.proofs.Common.{◌≡◌, ℕ, zero, suc, ◌+◌, ◌-◌, ◌*◌, ◌<◌, ◌≤◌, Option, Some, None, List, [], ◌∷◌, length, map, get_or, refl, sym, ap, ◌∙◌, subst, arith}
 use Rattle.std.specs.Prelude.{slice_get, option_map}
-use Rattle.std.proofs.lemmas.{Bool.le-ltb, Option.same_Some}
-use Rattle.lil_resolved.specs.{Kinds.{Shape, all_words, shape_by, shape_at}, Resolved.Resolved, Sizes.frame_words}
+use Rattle.std.proofs.lemmas.Bool.{le-ltb}
+use Rattle.lil_resolved.specs.{Kinds.{Shape, all_words, shape_by, shape_at}, Resolved.{Resolved, procedure_by, around_of}, Sizes.frame_words}
 use Rattle.lil_meaning.specs.{Items.{loaded_at, variables_of, targets_of, Item, Perform, End, Activation, Source, doing}, World.World, Need.frame_of, Steps.{owner_of, procedure_of, procedures_of, name_of}, Runs.{begun, bodies, body_of, body_activations, src}}
-use Rattle.lil_asm.specs.declared.instr.Instr.TheVariants.{Ent, Rtn}
-use Rattle.lil_mcode.specs.{declared.machine.Event.TheVariants.Went, Table.{State, first_entry, fetched, performed}}
+use Rattle.lil_asm.specs.{declared.instr.Instr.TheVariants.{Ent, Rtn}, Stretches.{stretch, decoded_inside}}
+use Rattle.lil_mcode.specs.{declared.machine.Event.TheVariants.Went, Table.{State, fetched, performed}}
 use Rattle.lil_frames.specs.Words.{zeros, cleared}
-use Rattle.lil_table.specs.Rows.{IsAt, layout_of}
+use Rattle.lil_table.specs.Rows.{in_procedure, layout_of}
 use Rattle.lil_match.specs.{Goes.{IsKnown, EachComes, Shared}, Running.{Run, mrun, running, advanced}, Parts.no, Homes.Home, Waits.{Frame, Setting, Quiet, outside, RowsOf, Rows, Ahead, Behind}, Steps.{advances, at_once, rows_ahead}, Orders.instr_within, Splices.{spliced_length, spliced_before, zeros_length}}
 use Rattle.lil_laws_stmt.specs.Control.{body_rows}
-use Rattle.lil_laws.specs.{Loading.{Compiled, HasEntries, text_of, data_end, entry_for, table_from, numbers_from, data_placed, image}, Placing.{place_from, variable_from, text_at, table_there, variable_offset, HasData, data_length, has_data, string_fixed, strings_low, home, owner_own, owner_free, mem}}
-use Rattle.lil_laws.specs.{Whole.{Unlimited, Agrees, limits, still_agrees, follows}, Reaching.{Reaches, reaches_before, reaches}}
+use Rattle.lil_laws.specs.{Loading.{Compiled, text_of, data_end, entry_for, table_from, numbers_from, data_placed, image}, Placing.{place_from, variable_from, text_at, table_there, variable_offset, HasData, data_length, has_data, string_fixed, strings_low, home, owner_own, owner_free, mem}}
+use Rattle.lil_laws.specs.{Entries.{body_within, body_apart, entry_row}, Whole.{Unlimited, Agrees, limits, still_agrees, follows}, Reaching.{Reaches, reaches_before, reaches}}
 
 -- one of the modules, whose body runs
 pub record Body (os : List Compiled) : Type 0 where
   pub index : ℕ
   pub its : Compiled
   pub there : slice_get os index ≡ Some its
-
-entry_zero : (ps : List (ℕ × Option (List ℕ))) → slice_get ps 0 ≡ Some (0, None) → first_entry ps ≡ 0
-entry_zero [] e = cc
-entry_zero (p ∷ ps) e = ap (λ (x : ℕ × Option (List ℕ)). x.0) (same_Some p (0, None) e)
 
 module _ (os : List Compiled) where
   abbrev pub number : Body os → ℕ
@@ -33,6 +29,9 @@ module _ (os : List Compiled) where
     number = suc b.index;
     procedure = 0;
     own = entry_for b.its (place_from 1 os b.index);
+    entry = 0;
+    after = b.its.translates.middle;
+    piece = stretch 0 b.its.translates.middle b.its.code;
     layout = layout_of b.its.strings b.its.text;
     at = data_end 1 os;
     back = 0;
@@ -66,37 +65,33 @@ module _ (os : List Compiled) where
 
     -- the code of bodies does what is left to do
     body_at : (a : ℕ) (b : Body os) (bs : List (Body os)) → Behind (setting (frame_for a b) (frames (suc a) bs)) (bodies library loaded (suc a) (map number bs)) (RowsOf (bodies library loaded (suc a) (map number bs))) 0 [] (frames (suc a) bs)
-        → Rows (setting (frame_for a b) (frames (suc a) bs)) (bodies library loaded a (map number (b ∷ bs))) Quiet b.its.translates.start [] 0 outside
+        → Rows (setting (frame_for a b) (frames (suc a) bs)) (bodies library loaded a (map number (b ∷ bs))) Quiet b.its.translates.body.start [] 0 outside
     body_at a b bs behind =
-        let t = b.its.translates in
+        let t = b.its.translates.body in
         let ctx = setting (frame_for a b) (frames (suc a) bs) in
         let rest : List Item = Perform (End a) ∷ bodies library loaded (suc a) (map number bs) in
         subst (λ (o : Option Resolved). Rows ctx (doing (body_of o) rest) Quiet t.start [] 0 outside) (sym (text b))
-        (body_rows ctx b.its.text.body rest t.start t.end 0 outside t.body (instr_within b.its.code t.end Rtn t.after t.leave)
+        (body_rows ctx b.its.text.body rest t.start t.end 0 outside t.body (instr_within (stretch 0 b.its.translates.middle b.its.code) t.end Rtn b.its.translates.middle t.leave)
         (at_once ctx _ Quiet t.end [] 0 outside
-        (record { quiet = refl; empty = refl; activation = refl; alone = refl; free = refl; end = t.after; leave = t.leave; behind = behind })))
+        (record { quiet = refl; empty = refl; activation = refl; alone = refl; free = refl; end = b.its.translates.middle; leave = t.leave; behind = behind })))
 
-    rows_of : (a : ℕ) (b : Body os) (bs : List (Body os)) → Rows (setting (frame_for a b) (frames (suc a) bs)) (bodies library loaded a (map number (b ∷ bs))) Quiet b.its.translates.start [] 0 outside
+    rows_of : (a : ℕ) (b : Body os) (bs : List (Body os)) → Rows (setting (frame_for a b) (frames (suc a) bs)) (bodies library loaded a (map number (b ∷ bs))) Quiet b.its.translates.body.start [] 0 outside
     rows_of a b [] = body_at a b [] refl
     rows_of a b (c ∷ bs) =
         body_at a b (c ∷ bs)
         (record {
           body = refl;
           low = omega arith;
-          start = c.its.translates.start;
-          enter = subst (λ (p : ℕ). IsAt c.its.code p (Ent (frame_words c.its.text.body)) c.its.translates.start) (sym (entry_zero c.its.procedures c.its.body)) c.its.translates.enter;
+          start = c.its.translates.body.start;
+          enter = c.its.translates.body.enter;
           then = rows_of (suc a) c bs;
         })
-
-  -- their procedures have their codes
-  abbrev pub Entries : Type 0
-  Entries = (i : ℕ) (o : Compiled) → slice_get os i ≡ Some o → HasEntries o
 
   -- their pointers point to the same
   abbrev pub Pointing : List Shape → Type 0
   Pointing targets = (i : ℕ) (o : Compiled) → slice_get os i ≡ Some o → o.text.targets ≡ targets
 
-  module _ (targets : List Shape) (same : Pointing targets) (entries : Entries) (all : List Activation) (size : ℕ) (store : List ℕ) (room : data_end 1 os ≤ 65535) (placed : HasData 1 os store) where
+  module _ (targets : List Shape) (same : Pointing targets) (all : List Activation) (size : ℕ) (store : List ℕ) (room : data_end 1 os ≤ 65535) (placed : HasData 1 os store) where
     abbrev h : Home
     h = home targets os size store
 
@@ -108,19 +103,23 @@ module _ (os : List Compiled) where
       runs = runs;
       owner = ap owner_of runs;
       called = ap procedure_of runs;
-      entered = record { entry = 0; there = b.its.body };
+      entered = record { there = refl; apart = body_apart b.its };
+      piece = record { is = refl; within = body_within b.its };
       size = sym (ap (λ (m : Option Resolved). frame_of m 0) (text b));
-      procedures = sym (ap procedures_of (text b));
+      procedures = ap (λ (m : Option Resolved). map around_of (procedures_of m)) (sym (text b));
       codes = λ p q there.
-          let e = entries b.index b.its b.there p q there in
+          let e = entry_row b.its p q (ap (λ (m : Option Resolved). procedure_by (procedures_of m) p) (sym (text b)) ∙ there) in
           record {
-            inner = record (layout_of b.its.strings b.its.text) { frame = frame_words q.body; chain = p ∷ q.around };
+            inner = in_procedure (layout_of b.its.strings b.its.text) p q;
             part = refl;
             frame = refl;
             chain = refl;
             free = refl;
             entry = e.entry;
             there = e.there;
+            after = e.after;
+            within = e.within;
+            apart = e.apart;
             code = e.row;
           };
       variables = λ x o t offset shape. (
@@ -144,7 +143,7 @@ module _ (os : List Compiled) where
     )
 
 -- these bodies run in their order, and the first one's frame has room
-module _ (os : List Compiled) (targets : List Shape) (same : Pointing os targets) (entries : Entries os) (b : Body os) (bs : List (Body os)) (room : data_end 1 os + frame_words b.its.text.body ≤ 65535) where
+module _ (os : List Compiled) (targets : List Shape) (same : Pointing os targets) (b : Body os) (bs : List (Body os)) (room : data_end 1 os + frame_words b.its.text.body ≤ 65535) where
   abbrev pub begins : State
   begins = image os (suc b.index) (map (number os) bs)
 
@@ -168,7 +167,7 @@ module _ (os : List Compiled) (targets : List Shape) (same : Pointing os targets
   entered = cleared begins.store (end + 4) (end + size)
 
   abbrev entered_at : State
-  entered_at = record begins { place = b.its.translates.start; top = end + size; store = entered }
+  entered_at = record begins { place = b.its.translates.body.start; top = end + size; store = entered }
 
   begins_length : length begins.store ≡ 65536
   begins_length = spliced_length (data_placed (zeros 65536) 1 os) end mark (omega (arith, placed_length, room)) ∙ placed_length
@@ -211,15 +210,15 @@ module _ (os : List Compiled) (targets : List Shape) (same : Pointing os targets
   shared w = record {
     mem = mem targets os size entered (omega (arith, room)) entered_length placed;
     heap = record { born = λ o. refl; above = λ o there. cc; apart = λ o p there. cc; known = refl; clear = λ w less. omega (arith, less); distinct = λ w v less. omega (arith, less); rest = omega arith };
-    program = record { table_is = refl; known = table_there 1 os b.index b.its b.there; running_is = refl; marked_is = refl };
+    program = record { table_is = refl; known = table_there 1 os b.index b.its b.there; piece = record { is = refl; within = body_within b.its }; running_is = refl; marked_is = refl };
     standing = record {
       frame_is = refl;
       base_is = refl;
       limit_is = refl;
       bodies_are = numbers 1 bs;
-      known = known os targets same entries (body_activations order) size entered (omega (arith, room)) placed 0 b refl;
+      known = known os targets same (body_activations order) size entered (omega (arith, room)) placed 0 b refl;
       callers = tt;
-      comes = each_comes os targets same entries (body_activations order) size entered (omega (arith, room)) placed 1 bs (omega arith) (λ i. ap (slice_get (body_activations order)) (let e : 1 + i ≡ suc i = omega arith in e));
+      comes = each_comes os targets same (body_activations order) size entered (omega (arith, room)) placed 1 bs (omega arith) (λ i. ap (slice_get (body_activations order)) (let e : 1 + i ≡ suc i = omega arith in e));
       stands = (record { mark = omega arith; below = omega arith; most = omega arith; own = λ i l. owner_own targets os size entered (end + i) (omega arith) (omega (arith, l)) }, refl);
       links = tt;
       room = λ a from below. owner_free targets os size entered a (omega (arith, from));
@@ -242,13 +241,13 @@ module _ (os : List Compiled) (targets : List Shape) (same : Pointing os targets
   enters w =
       advances begins w (Went, entered_at) (
       ap (fetched begins) (table_there 1 os b.index b.its b.there)
-      ∙ ap (performed begins (entry_for b.its (place_from 1 os b.index))) b.its.translates.enter
+      ∙ ap (performed begins (entry_for b.its (place_from 1 os b.index))) (decoded_inside 0 b.its.translates.middle b.its.code 0 _ (body_within b.its) b.its.translates.body.enter).there
       ∙ no _ _ _ (le-ltb (end + size) (end + 4) (omega arith))
       ∙ no _ _ _ (le-ltb 65535 (end + size) room)
       )
 
-  ahead : Ahead ctx items Quiet b.its.translates.start [] 0 outside
-  ahead = rows_ahead ctx items b.its.translates.start [] 0 outside (rows_of os (body_activations order) (home targets os size entered) 0 b bs)
+  ahead : Ahead ctx items Quiet b.its.translates.body.start [] 0 outside
+  ahead = rows_ahead ctx items b.its.translates.body.start [] 0 outside (rows_of os (body_activations order) (home targets os size entered) 0 b bs)
 
   abbrev pub state_after : World → ℕ → Source
   state_after w n = src (map text_of os) (numbers_from 0 os) (map (number os) (b ∷ bs)) w n

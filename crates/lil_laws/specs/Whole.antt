@@ -1,21 +1,27 @@
 -- Whole runs: after any number of steps, the machine has shown what some state of the meaning has.
 use Rattle.std.proofs.Common.{◌≡◌, ◌≢◌, ℕ, zero, suc, ◌+◌, ◌-◌, ◌*◌, ◌<◌, ◌≤◌, List, [], length, Option, Some, None, refl, sym, ap, ◌∙◌, subst, ⊎_elim, arith, zero-add, suc-add}
+use Rattle.std.specs.Prelude.{slice_get}
 use Rattle.std.proofs.lemmas.Bool.{cases_lt}
 use Rattle.lil_base.specs.declared.fault.{TrapKind.TrapKind, LimitKind.LimitKind, TrapAt.TrapAt}
 use Rattle.lil_resolved.specs.Resolved.{Resolved}
 use Rattle.lil_meaning.specs.{World.{World, closing, closings_left, all_closed}, Closings.{none_left, all_none, all_some, fewer_left, some_left, closing_shuts}, Items.{Item, Activation, Level, Phase, Going, Closing, Ended, Trapped, Source}, Steps.{next, by_phase, left_by, over, over_by}, Runs.after}
 use Rattle.lil_mcode.specs.Table.{Module, State, module_at, mstep}
-use Rattle.lil_match.specs.{Goes.{HasName, Shared, Lands, IsStill, Short, IsFull, Goes}, Running.{Finish, Running, Finished, TrappedBy, Limited, Broken, Run, mrun, running, react, advanced, unless_over}, Homes.Home, Waits.{stutter, Stack, Setting, Quiet, Around, Ahead}, Resting.{EachRests, each_rests}}
+use Rattle.lil_match.specs.{Goes.{IsApart, IsNamed, Shared, Lands, IsStill, Short, IsFull, Goes}, Running.{Finish, Running, Finished, TrappedBy, Limited, Broken, Run, mrun, running, react, advanced, unless_over}, Homes.Home, Waits.{stutter, Frame, Stack, Setting, Quiet, Around, Ahead}, Resting.{EachRests, each_rests}}
 use Rattle.lil_laws.specs.Each.{each_step}
 
--- a state that has trapped, in a procedure of the module of the table that runs
+-- a state that has trapped, in the code of a procedure of the module of the table that runs
 pub record TrapsIn (table : List Module) (k : TrapKind) (machine : State) (p : Phase) : Type 0 where
   pub table_is : machine.modules ≡ table
   pub own : Module
   pub known : module_at table machine.running ≡ Some own
   pub number : ℕ
   pub name : Option (List ℕ)
-  pub procedure : HasName own.procedures number name
+  pub entry : ℕ
+  pub after : ℕ
+  pub there : slice_get own.procedures number ≡ Some (entry, name)
+  pub apart : IsApart own.procedures number entry after
+  pub low : entry ≤ machine.place
+  pub high : machine.place < after
   pub is : p ≡ Trapped (record { kind = k; «module» = own.name; procedure = name })
 
 -- what is said of the source by how the run stands, where a limit comes only from such states
@@ -130,17 +136,22 @@ agrees_more table limits more t run wider a = record { world = a.world; claims =
 pub still_agrees : (table : List Module) (limits : LimitKind → Source → Type 0) (s : Source) (k : List Item) (run : Run) → IsStill s.world run → Agrees table limits (record s { items = k; phase = Going }) run
 still_agrees table limits s k run h = agree table limits (record s { items = k; phase = Going }) run Running h.world h.finish refl
 
-trapped_agrees : (table : List Module) (limits : LimitKind → Source → Type 0) (s : Source) (run : Run) (t : TrapAt) (number : ℕ) (own : Module) → s.phase ≡ Trapped t → run.finish ≡ TrappedBy t.kind → run.world ≡ s.world
-    → run.machine.modules ≡ table → module_at table run.machine.running ≡ Some own → t.«module» ≡ own.name → HasName own.procedures number t.procedure → Agrees table limits s run
-trapped_agrees table limits s run t number own over f w same_table known named procedure =
+trapped_agrees : (table : List Module) (limits : LimitKind → Source → Type 0) (s : Source) (run : Run) (t : TrapAt) (frame : Frame) → s.phase ≡ Trapped t → run.finish ≡ TrappedBy t.kind → run.world ≡ s.world
+    → run.machine.modules ≡ table → module_at table run.machine.running ≡ Some frame.own → t.«module» ≡ frame.own.name → IsNamed frame t.procedure → frame.entry ≤ run.machine.place → run.machine.place < frame.after → Agrees table limits s run
+trapped_agrees table limits s run t frame over f w same_table known named procedure low high =
     agree table limits s run (TrappedBy t.kind) w f
     (record {
       table_is = same_table;
-      own = own;
+      own = frame.own;
       known = known;
-      number = number;
+      number = frame.procedure;
       name = t.procedure;
-      procedure = procedure;
+      entry = frame.entry;
+      after = frame.after;
+      there = procedure.there;
+      apart = procedure.apart;
+      low = low;
+      high = high;
       is = over ∙ ap (λ (x : List ℕ). Trapped (record t { «module» = x })) named;
     })
 
@@ -214,7 +225,7 @@ module _ (ctx : Setting) where
       let is = is_closed library (Some t) (closings_left 1 s.world) s e gone.first refl in
       later_follows s closed run steps c is.steps is.is
       (over_follows closed run steps c
-      (trapped_agrees table limits closed run t y.frame.procedure y.frame.own refl gone.finish gone.world lands.table_is (ap (module_at table) lands.running_is ∙ lands.known) lands.name lands.procedure)
+      (trapped_agrees table limits closed run t y.frame refl gone.finish gone.world lands.table_is (ap (module_at table) lands.running_is ∙ lands.known) lands.name lands.procedure lands.low lands.high)
       (trapped_rests library closed t refl) (run_over run (TrappedBy t.kind) gone.finish (λ g. cc)))
   landed steps P claim acts x y rests based (Trapped t) s run c e lands has = absurd lands
 

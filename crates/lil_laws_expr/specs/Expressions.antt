@@ -8,15 +8,15 @@ use Rattle.lil_resolved.specs.{Resolved.{Designator, Function, Expression, Const
 use Rattle.lil_meaning.specs.{Items.{Object, Place, got, Scalars, Places, Get, OneOf, LeftOf, RightOf, ShortOf, ApplyTo, Item, Value, Evaluate, Fill, Going, Source}, Steps.{next, answered, with_items, applied, one_applied, function_value, current}}
 use Rattle.lil_asm.specs.declared.instr.Instr.{Instr, TheVariants.Liw}
 use Rattle.lil_mcode.specs.{declared.machine.Event.{Event, TheVariants.Went}, Table.{State, mstep, act, going, jump, on_one, and_row, or_row}}
-use Rattle.lil_table.specs.Rows.{InstrsAt, access_of, load_code, one_code, two_code, function_code, short_code}
+use Rattle.lil_table.specs.Rows.{IsAt, InstrsAt, access_of, load_code, one_code, two_code, function_code, short_code}
 use Rattle.lil_match.specs.{Goes.{Shared, Goes, Lands}, Running.{running, react}, Parts.yes, Homes.{word_for, Refers, plain_word, plain_refers, refers_base, shape_there}, Waits.{stutter, Setting, frame_of, laid_out, Mode, Quiet, ValueOf, AtPlace, Around, Reach, AfterJumps, Rows, HasPlace, Designates, RightPart, Waiting}}
-use Rattle.lil_match.specs.{Steps.{advances, pushes, at_step, at_once, lands_on, goes_none, goes_one, goes_after, goes_more, operand_goes, located_goes, closed, both_trap}, Orders.{instr_within, instrs_order, instrs_within, expression_stands, expression_within}}
+use Rattle.lil_match.specs.{Steps.{inside_own, advances, pushes, at_step, at_once, lands_on, goes_none, goes_one, goes_after, goes_more, operand_goes, located_goes, closed, both_trap}, Orders.{instr_within, instrs_order, instrs_within, expression_stands, expression_within}}
 use Rattle.lil_laws_place.specs.{Codes.loads, Elements.place_some, Sets.not_true}
 use Rattle.lil_laws_expr.specs.Operators.{answer_row, Gives, Fits, one_plain, two_plain, right_plain, function_plain, ranged_none, pointer_gives, one_gives, one_fits, two_gives, two_length, two_fits, function_gives, function_fits, function_none, function_length}
 
 module _ (ctx : Setting) where
   open ctx use {library, table, home as h}
-  open frame_of ctx use {own, number}
+  open frame_of ctx use {own, piece, number}
   open laid_out ctx use {layout as l}
 
   module _ (s : Source) (k : List Item) (m : State) (c : ℕ) (a : Around) (shared : Shared ctx s m) where
@@ -27,25 +27,25 @@ module _ (ctx : Setting) where
     Now items = record s { items = items; phase = Going }
 
     -- a row to which no jump leads
-    once : {row : Reach} {t : Mode} {p : ℕ} {stack : List ℕ} → row t p stack c a → AfterJumps own.code row t p stack c a
+    once : {row : Reach} {t : Mode} {p : ℕ} {stack : List ℕ} → row t p stack c a → AfterJumps piece row t p stack c a
     once {row} {t} {p} {stack} r = at_once ctx row t p stack c a r
 
     -- the value that instructions give, or their trap
-    answer_lands : (items : List Item) → current items ≡ ctx.stack.frame.activation → (r : Result Scalar TrapKind) (kind : Kind) → is_plain kind ≡ true → Fits kind r → (p : ℕ) (stack : List ℕ) (end : ℕ) (below : List ℕ) → Rest (ValueOf kind) end below c a
+    answer_lands : (items : List Item) → current items ≡ ctx.stack.frame.activation → (r : Result Scalar TrapKind) (kind : Kind) → is_plain kind ≡ true → Fits kind r → (p : ℕ) (stack : List ℕ) (i : Instr) (q : ℕ) → IsAt piece p i q → (end : ℕ) (below : List ℕ) → Rest (ValueOf kind) end below c a
         → Lands ctx (answered library r k (Now items)).phase (answered library r k (Now items))
         (react (answer_row (going m p stack) end below r).0 (answer_row (going m p stack) end below r).1 (running (going m p stack) s.world)) c
-    answer_lands items close (Ok v) kind plain fits p stack end below rest =
+    answer_lands items close (Ok v) kind plain fits p stack i q at end below rest =
         lands_on ctx s m shared (Value (Scalars v) ∷ k) end (scalar_word v ∷ below) c a
         (once (record {
           part = record { kind = kind; fits = fits; refers = plain_refers h kind v plain; below = below; is = ap (λ (w : ℕ). w ∷ below) (sym (plain_word h kind v plain fits)) };
           then = rest;
         }))
-    answer_lands items close (Err t) kind plain fits p stack end below rest =
-        both_trap ctx s items (going m p stack) t shared close
+    answer_lands items close (Err t) kind plain fits p stack i q at end below rest =
+        both_trap ctx s items (going m p stack) t i q shared at close
 
     -- instructions that give a value, as the source does
     instrs_go : (items : List Item) → current items ≡ ctx.stack.frame.activation → (r : Result Scalar TrapKind) → next library (Now items) ≡ answered library r k (Now items) → (kind : Kind) → is_plain kind ≡ true → Fits kind r
-        → (end : ℕ) (below : List ℕ) → Rest (ValueOf kind) end below c a → (is : List Instr) (p : ℕ) (stack : List ℕ) → InstrsAt own.code is p end → Gives own is (going m p stack) below r
+        → (end : ℕ) (below : List ℕ) → Rest (ValueOf kind) end below c a → (is : List Instr) (p : ℕ) (stack : List ℕ) → InstrsAt piece is p end → Gives own is (going m p stack) below r
         → Goes ctx s items (going m p stack) (c + length is)
     instrs_go items close r becomes kind plain fits end below rest [] p stack here gives = absurd gives
     instrs_go items close r becomes kind plain fits end below rest (i ∷ []) p stack here gives =
@@ -55,7 +55,7 @@ module _ (ctx : Setting) where
         ∙ gives here.0
         ))
         (subst (λ (x : Source). Lands ctx x.phase x (react (answer_row (going m p stack) here.0 below r).0 (answer_row (going m p stack) here.0 below r).1 (running (going m p stack) s.world)) c) (sym becomes)
-        (answer_lands items close r kind plain fits p stack here.0 below (subst (λ (q : ℕ). Rest (ValueOf kind) q below c a) (sym here.2) rest)))
+        (answer_lands items close r kind plain fits p stack i here.0 here.1 here.0 below (subst (λ (q : ℕ). Rest (ValueOf kind) q below c a) (sym here.2) rest)))
     instrs_go items close r becomes kind plain fits end below rest (i ∷ j ∷ is) p stack here gives =
         goes_after ctx s items (going m p stack) (going m here.0 gives.0) (c + length (i ∷ j ∷ is)) (c + length (j ∷ is))
         (advances (going m p stack) s.world _ (
@@ -98,27 +98,27 @@ module _ (ctx : Setting) where
 
     pub one_goes : (o : OneOp) (j : Kind) (e : Expression) → Waiting ctx (Evaluate (One o j e)) Rest Quiet m.place m.stack c a → Goes ctx s (Evaluate (One o j e) ∷ k) m (c + 32)
     one_goes o j e row =
-        let first = expression_stands l own.code e m.place row.part.here.middle row.part.here.first in
-        let by = instrs_order own.code (one_code o j) row.part.here.middle row.part.end row.part.here.by first.1 in
+        let first = expression_stands l piece e m.place row.part.here.middle row.part.here.first in
+        let by = instrs_order piece (one_code o j) row.part.here.middle row.part.end row.part.here.by first.1 in
         operand_goes ctx s k m c a shared (Evaluate (One o j e) ∷ k) e (OneOf o j) refl (omega arith) row.part.here.middle row.part.here.first row.part.shallow (omega (arith, by.0, row.part.within))
         (record { part = record { of = e; same = refl; from = m.place; did = row.part; at = refl }; then = row.then })
 
     pub two_goes : (o : TwoOp) (j : Kind) (e f : Expression) → Waiting ctx (Evaluate (Two o j e f)) Rest Quiet m.place m.stack c a → Goes ctx s (Evaluate (Two o j e f) ∷ k) m (c + 32)
     two_goes o j e f row =
         operand_goes ctx s k m c a shared (Evaluate (Two o j e f) ∷ k) e (LeftOf o j f) refl (omega arith) row.part.here.middle row.part.here.first (omega (arith, row.part.shallow))
-        (expression_within l own.code f row.part.here.middle row.part.here.last row.part.here.second)
+        (expression_within l piece f row.part.here.middle row.part.here.last row.part.here.second)
         (record { part = record { of = e; same = refl; from = m.place; did = row.part; at = refl }; then = row.then })
 
     pub short_begins : (d : Bool) (e f : Expression) → Waiting ctx (Evaluate (Short d e f)) Rest Quiet m.place m.stack c a → Goes ctx s (Evaluate (Short d e f) ∷ k) m (c + 32)
     short_begins d e f row =
         operand_goes ctx s k m c a shared (Evaluate (Short d e f) ∷ k) e (ShortOf d f) refl (omega arith) row.part.here.middle row.part.here.first (omega (arith, row.part.shallow))
-        (instr_within own.code row.part.here.middle (short_code d row.part.end) row.part.here.start row.part.here.test)
+        (instr_within piece row.part.here.middle (short_code d row.part.end) row.part.here.start row.part.here.test)
         (record { part = record { of = e; same = refl; from = m.place; did = row.part; at = refl }; then = row.then })
 
     pub apply_goes : (f : Function) (e : Expression) → Waiting ctx (Evaluate (Apply f e)) Rest Quiet m.place m.stack c a → Goes ctx s (Evaluate (Apply f e) ∷ k) m (c + 32)
     apply_goes f e row =
-        let first = expression_stands l own.code e m.place row.part.here.middle row.part.here.first in
-        let by = instrs_order own.code (function_code f (kind_of e)) row.part.here.middle row.part.end row.part.here.by first.1 in
+        let first = expression_stands l piece e m.place row.part.here.middle row.part.here.first in
+        let by = instrs_order piece (function_code f (kind_of e)) row.part.here.middle row.part.end row.part.here.by first.1 in
         operand_goes ctx s k m c a shared (Evaluate (Apply f e) ∷ k) e (ApplyTo f) refl (omega arith) row.part.here.middle row.part.here.first (omega (arith, row.part.shallow)) (omega (arith, by.0, row.part.within))
         (record { part = record { of = e; same = refl; from = m.place; did = row.part; at = refl }; then = row.then })
 
@@ -146,7 +146,7 @@ module _ (ctx : Setting) where
         let here = r.did.here in
         let kinds : kind ≡ j = r.same ∙ here.left_typed in
         operand_goes ctx s k m c a shared (Value (Scalars v) ∷ Fill (LeftOf o j f) ∷ k) f (RightOf o j v) refl (omega arith) here.last (rw r.at here.second) (omega (arith, r.did.shallow, ap length is))
-        (instrs_within own.code (two_code o j) here.last r.did.end (two_length o j here.takes).0 here.by)
+        (instrs_within piece (two_code o j) here.last r.did.end (two_length o j here.takes).0 here.by)
         (record {
           part = record {
             left = r.of;
@@ -238,7 +238,7 @@ module _ (ctx : Setting) where
     taken : (f : Function) (kind : Kind) (below : List ℕ) → Applying f kind below → takes_function f kind ≡ true
     taken f kind below row = ap (takes_function f) row.part.same ∙ row.part.did.here.takes
 
-    coded : (f : Function) (kind : Kind) (below : List ℕ) (row : Applying f kind below) → InstrsAt own.code (function_code f kind) m.place row.part.did.end
+    coded : (f : Function) (kind : Kind) (below : List ℕ) (row : Applying f kind below) → InstrsAt piece (function_code f kind) m.place row.part.did.end
     coded f kind below row = rw (row.part.at, row.part.same) row.part.did.here.by
 
     -- a standard function that has no code
@@ -249,7 +249,7 @@ module _ (ctx : Setting) where
         let kept = function_none f kind v (taken f kind below row) fits none in
         let u : Scalar = kept.0 in
         let becomes : next library (Now items) ≡ with_items (Now items) (Value (Scalars u) ∷ k) = ap (λ (r : Result Scalar TrapKind). answered library r k (Now items)) kept.1 in
-        let end : m.place ≡ row.part.did.end = subst (λ (is : List Instr). InstrsAt own.code is m.place row.part.did.end) none (coded f kind below row) in
+        let end : m.place ≡ row.part.did.end = subst (λ (is : List Instr). InstrsAt piece is m.place row.part.did.end) none (coded f kind below row) in
         let plain = function_plain f kind (taken f kind below row) in
         let word : word_for h v ≡ word_for h u = plain_word h kind v plain.0 fits ∙ sym kept.2 ∙ sym (plain_word h (function_kind f) u plain.1 kept.3) in
         goes_none ctx s items m 32 c
@@ -345,8 +345,8 @@ module _ (ctx : Setting) where
         ∙ ap (λ (x : List ℕ). on_one m x look) is
 
     -- the jump stays within the code
-    jumps : (q : ℕ) → q < length own.code → (let r : Event × State = jump own q m m in r) ≡ (Went, going m q m.stack)
-    jumps q inside = yes _ _ _ (lt-ltb q (length own.code) inside)
+    jumps : (q : ℕ) → q < length piece → (let r : Event × State = jump own q m m in r) ≡ (Went, going m q m.stack)
+    jumps q inside = yes _ _ _ (lt-ltb q (length own.code) (inside_own ctx shared.program q inside))
 
     short_of_truth : (d : Bool) (f : Expression) (v : Scalar) → within OfTruth v ≡ true → (kind : Kind) (below : List ℕ) → m.stack ≡ word_for h v ∷ below → Waiting ctx (Fill (ShortOf d f)) Rest (ValueOf kind) m.place below c a
         → Goes ctx s (Value (Scalars v) ∷ Fill (ShortOf d f) ∷ k) m (c + 32)

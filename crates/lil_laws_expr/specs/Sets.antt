@@ -12,7 +12,7 @@ use Rattle.lil_laws_place.specs.{Codes.{leads, tested}, Sets.{IsMember, member_i
 
 module _ (ctx : Setting) where
   open ctx use {library, home as h}
-  open frame_of ctx use {own}
+  open frame_of ctx use {own, piece}
   open laid_out ctx use {layout as l}
 
   module _ (s : Source) (k : List Item) (m : State) (c : ℕ) (a : Around) (shared : Shared ctx s m) where
@@ -20,25 +20,25 @@ module _ (ctx : Setting) where
     Rest = Rows ctx k
 
     -- the place where a test and an instruction behind it begin lies within the code
-    tested_within : (kind j : Kind) (p q : ℕ) → p ≤ length own.code → InstrsAt own.code (test_code kind j) p q → q < length own.code → p < length own.code
-    tested_within kind j p q inside test after = let t = instrs_order own.code (test_code kind j) p q test inside in omega (arith, t.0, after)
+    tested_within : (kind j : Kind) (p q : ℕ) → p ≤ length piece → InstrsAt piece (test_code kind j) p q → q < length piece → p < length piece
+    tested_within kind j p q inside test after = let t = instrs_order piece (test_code kind j) p q test inside in omega (arith, t.0, after)
 
     pub with_goes : (e : Expression) (kind : Kind) (f : Expression) → Waiting ctx (Evaluate (With e kind f)) Rest Quiet m.place m.stack c a → Goes ctx s (Evaluate (With e kind f) ∷ k) m (c + 32)
     with_goes e kind f row =
         let r = row.part.here in
         operand_goes ctx s k m c a shared (Evaluate (With e kind f) ∷ k) e (WithMember kind f) refl (omega arith) r.start r.first (omega (arith, row.part.shallow))
-        (expression_within l own.code f r.start r.middle r.value)
+        (expression_within l piece f r.start r.middle r.value)
         (record { part = record { of = e; same = refl; from = m.place; did = row.part; at = refl }; then = row.then })
 
     pub with_span_goes : (e : Expression) (kind : Kind) (f g : Expression) → Waiting ctx (Evaluate (WithSpan e kind f g)) Rest Quiet m.place m.stack c a → Goes ctx s (Evaluate (WithSpan e kind f g) ∷ k) m (c + 32)
     with_span_goes e kind f g row =
         let r = row.part.here in
         operand_goes ctx s k m c a shared (Evaluate (WithSpan e kind f g) ∷ k) e (WithMembers kind f g) refl (omega arith) r.start r.first (omega (arith, row.part.shallow))
-        (expression_within l own.code f r.start r.middle r.value)
+        (expression_within l piece f r.start r.middle r.value)
         (record { part = record { of = e; same = refl; from = m.place; did = row.part; at = refl }; then = row.then })
 
     -- the set gets the numbers from one to another, which both stand above it
-    spans_goes : (items : List Item) (u low high : Scalar) → within OfSet u ≡ true → IsMember low → IsMember high → (below : List ℕ) (p q : ℕ) → IsAt own.code p Spn q
+    spans_goes : (items : List Item) (u low high : Scalar) → within OfSet u ≡ true → IsMember low → IsMember high → (below : List ℕ) (p q : ℕ) → IsAt piece p Spn q
         → next library (record s { items = items; phase = Going }) ≡ with_items (record s { items = items; phase = Going }) (Value (Scalars (with_span u low high)) ∷ k)
         → Rest (ValueOf OfSet) q below c a → Goes ctx s items (going m p (scalar_word high ∷ scalar_word low ∷ scalar_word u ∷ below)) (c + 1)
     spans_goes items u low high fits from to below p q at becomes rest =
@@ -59,9 +59,9 @@ module _ (ctx : Setting) where
       pub with_member_goes : (kind : Kind) (f : Expression) → Waiting ctx (Fill (WithMember kind f)) Rest (ValueOf j) m.place below c a → Goes ctx s (Value (Scalars v) ∷ Fill (WithMember kind f) ∷ k) m (c + 32)
       with_member_goes kind f row =
           let r = row.part.did.here in
-          let value = expression_stands l own.code f r.start r.middle r.value in
+          let value = expression_stands l piece f r.start r.middle r.value in
           operand_goes ctx s k m c a shared (Value (Scalars v) ∷ Fill (WithMember kind f) ∷ k) f (MemberOf v kind) refl (omega arith) r.middle (rw row.part.at r.value) (omega (arith, row.part.did.shallow, ap length is))
-          (tested_within kind (kind_of f) r.middle r.tested value.1 r.test (instrs_within own.code (Dup ∷ Spn ∷ []) r.tested row.part.did.end (omega arith) r.by))
+          (tested_within kind (kind_of f) r.middle r.tested value.1 r.test (instrs_within piece (Dup ∷ Spn ∷ []) r.tested row.part.did.end (omega arith) r.by))
           (record {
             part = record {
               to = row.part.of;
@@ -76,9 +76,9 @@ module _ (ctx : Setting) where
       pub with_members_goes : (kind : Kind) (f g : Expression) → Waiting ctx (Fill (WithMembers kind f g)) Rest (ValueOf j) m.place below c a → Goes ctx s (Value (Scalars v) ∷ Fill (WithMembers kind f g) ∷ k) m (c + 32)
       with_members_goes kind f g row =
           let r = row.part.did.here in
-          let value = expression_stands l own.code f r.start r.middle r.value in
+          let value = expression_stands l piece f r.start r.middle r.value in
           operand_goes ctx s k m c a shared (Value (Scalars v) ∷ Fill (WithMembers kind f g) ∷ k) f (MembersFrom v kind g) refl (omega arith) r.middle (rw row.part.at r.value) (omega (arith, row.part.did.shallow, ap length is))
-          (tested_within kind (kind_of f) r.middle r.tested value.1 r.test (expression_within l own.code g r.tested r.last r.last_value))
+          (tested_within kind (kind_of f) r.middle r.tested value.1 r.test (expression_within l piece g r.tested r.last r.last_value))
           (record {
             part = record {
               to = row.part.of;
@@ -109,7 +109,7 @@ module _ (ctx : Setting) where
           subst (λ (x : List ℕ). Goes ctx s items (going m r.tested x) (c + 2)) (sym full)
           (leads ctx s items m shared Dup r.tested r.by.0 (scalar_word v ∷ scalar_word u ∷ part.below) (scalar_word v ∷ scalar_word v ∷ scalar_word u ∷ part.below) (c + 2) (c + 1) r.by.1
           (pushes (scalar_word v) r.by.0 (going m r.tested (scalar_word v ∷ scalar_word u ∷ part.below)) (omega (arith, part.row.did.shallow)))
-          (spans_goes items u v v part.set.fits is_member is_member part.below r.by.0 part.row.did.end (subst (λ (q : ℕ). IsAt own.code r.by.0 Spn q) r.by.2.2 r.by.2.1) (ap becomes one) row.then)
+          (spans_goes items u v v part.set.fits is_member is_member part.below r.by.0 part.row.did.end (subst (λ (q : ℕ). IsAt piece r.by.0 Spn q) r.by.2.2 r.by.2.1) (ap becomes one) row.then)
           (omega arith)))
           (omega arith)
 
@@ -122,13 +122,13 @@ module _ (ctx : Setting) where
           let items : List Item = Value (Scalars v) ∷ Fill (MembersFrom u kind f) ∷ k in
           let now : Source = record s { items = items; phase = Going } in
           let becomes : Bool → Source = λ b. cond b (with_items now (Evaluate f ∷ Fill (MembersTo u kind v) ∷ k)) (trapped library now trap.Range) in
-          let last = expression_stands l own.code f r.tested r.last r.last_value in
+          let last = expression_stands l piece f r.tested r.last r.last_value in
           tested ctx s items m shared m.place m.stack kind j v takes fit below (word kind takes) r.tested (c + 32) c (rw (part.row.at, part.row.same) r.test) (closed ctx k _ _ _ _ _ row.then)
           (λ out. ap becomes out)
           (λ one.
           operand_exact ctx s k (going m r.tested m.stack) c a shared items f (MembersTo u kind v) (ap becomes one) (omega arith) r.last r.last_value
           (omega (arith, part.row.did.shallow, ap length is, ap length part.set.is))
-          (tested_within kind (kind_of f) r.last r.end last.1 r.last_test (instr_within own.code r.end Spn part.row.did.end r.by))
+          (tested_within kind (kind_of f) r.last r.end last.1 r.last_test (instr_within piece r.end Spn part.row.did.end r.by))
           (record {
             part = record {
               to = part.to;

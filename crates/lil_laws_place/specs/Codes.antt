@@ -17,7 +17,7 @@ top_behind o e = cc
 
 module _ (ctx : Setting) where
   open ctx use {home as h}
-  open frame_of ctx use {own}
+  open frame_of ctx use {own, piece}
 
   -- the address of a place is one of the store
   pub inside : (s : Source) (m : State) → Shared ctx s m → (b : Access) (place : Place) (t : Shape) (stack below : List ℕ) → HasPlace ctx b place t stack below → address h place + words t ≤ 65535
@@ -76,14 +76,14 @@ module _ (ctx : Setting) where
       by (Behind o) has at living = record { seen = has.seen; living = living; there = there; at = (has.at.0, omega (arith, at, has.at.1), has.at.2) }
 
   -- an instruction that changes the place and the expression stack alone
-  pub leads : (s : Source) (items : List Item) (m : State) → Shared ctx s m → (i : Instr) (p q : ℕ) (stack to : List ℕ) (budget rest : ℕ) → IsAt own.code p i q
+  pub leads : (s : Source) (items : List Item) (m : State) → Shared ctx s m → (i : Instr) (p q : ℕ) (stack to : List ℕ) (budget rest : ℕ) → IsAt piece p i q
       → act i q own (going m p stack) ≡ (Went, going m q to) → Goes ctx s items (going m q to) rest → rest + 1 ≤ budget → Goes ctx s items (going m p stack) budget
   leads s items m shared i p q stack to budget rest at row goes less =
       goes_after ctx s items (going m p stack) (going m q to) budget rest (advances (going m p stack) s.world _ (at_step ctx (going m p stack) shared.program i q at ∙ row)) goes less
 
   -- the address of a place comes to the expression stack
   pub addressed : (s : Source) (items : List Item) (m : State) → Shared ctx s m → (b : Access) (place : Place) (t : Shape) (stack below : List ℕ) → HasPlace ctx b place t stack below → length below + 1 ≤ 16
-      → (p q budget rest : ℕ) → InstrsAt own.code (address_code b) p q → Goes ctx s items (going m q (address h place ∷ below)) rest → rest + 1 ≤ budget → Goes ctx s items (going m p stack) budget
+      → (p q budget rest : ℕ) → InstrsAt piece (address_code b) p q → Goes ctx s items (going m q (address h place ∷ below)) rest → rest + 1 ≤ budget → Goes ctx s items (going m p stack) budget
   addressed s items m shared (InData o) place t stack below has room p q budget rest at goes less =
       let low = inside s m shared (InData o) place t stack below has in
       leads s items m shared (Lag o) p at.0 stack (address h place ∷ below) budget rest at.1
@@ -128,7 +128,7 @@ module _ (ctx : Setting) where
 
   -- a place is made ready for a store
   pub made_ready : (s : Source) (items : List Item) (m : State) → Shared ctx s m → (b : Access) (place : Place) (t : Shape) (stack below : List ℕ) → HasPlace ctx b place t stack below
-      → (p q budget rest : ℕ) → InstrsAt own.code (ready_code b) p q → ((under : List ℕ) → HasPlace ctx (readied b) place t under below → Goes ctx s items (going m q under) rest) → rest + 1 ≤ budget
+      → (p q budget rest : ℕ) → InstrsAt piece (ready_code b) p q → ((under : List ℕ) → HasPlace ctx (readied b) place t under below → Goes ctx s items (going m q under) rest) → rest + 1 ≤ budget
       → Goes ctx s items (going m p stack) budget
   made_ready s items m shared (InData o) place t stack below has p q budget rest at goes less =
       goes_more ctx s items (going m p stack) rest budget (subst (λ (x : ℕ). Goes ctx s items (going m x stack) rest) (sym at) (goes stack has)) (omega (arith, less))
@@ -163,7 +163,7 @@ module _ (ctx : Setting) where
 
   -- a place that is ready is kept for a second use
   pub kept_twice : (s : Source) (items : List Item) (m : State) → Shared ctx s m → (b : Access) (place : Place) (t : Shape) (once : List ℕ) → HasPlace ctx b place t once [] → readied b ≡ b
-      → (p q budget rest : ℕ) → InstrsAt own.code (again_code b) p q → Goes ctx s items (going m q (doubled b once)) rest → rest + 1 ≤ budget → Goes ctx s items (going m p once) budget
+      → (p q budget rest : ℕ) → InstrsAt piece (again_code b) p q → Goes ctx s items (going m q (doubled b once)) rest → rest + 1 ≤ budget → Goes ctx s items (going m p once) budget
   kept_twice s items m shared (InData o) place t once has ready p q budget rest at goes less =
       goes_more ctx s items (going m p once) rest budget (subst (λ (x : ℕ). Goes ctx s items (going m x once) rest) (sym at) goes) (omega (arith, less))
   kept_twice s items m shared OnTop place t once has ready p q budget rest at goes less =
@@ -176,7 +176,7 @@ module _ (ctx : Setting) where
 
   -- the word that lies there comes below a number
   pub brings_under : (s : Source) (items : List Item) (m : State) → Shared ctx s m → (b : Access) (place : Place) (k : Kind) (once : List ℕ) → HasPlace ctx b place (Word k) once [] → readied b ≡ b → (w : ℕ)
-      → (p q budget rest : ℕ) → InstrsAt own.code (under_code b) p q → Goes ctx s items (going m q (w ∷ get_or m.store (address h place) 0 ∷ once)) rest → rest + 3 ≤ budget
+      → (p q budget rest : ℕ) → InstrsAt piece (under_code b) p q → Goes ctx s items (going m q (w ∷ get_or m.store (address h place) 0 ∷ once)) rest → rest + 3 ≤ budget
       → Goes ctx s items (going m p (w ∷ doubled b once)) budget
   brings_under s items m shared (InData o) place k once has ready w p q budget rest at goes less =
       let low = inside s m shared (InData o) place (Word k) once [] has in
@@ -210,7 +210,7 @@ module _ (ctx : Setting) where
 
 module _ (ctx : Setting) where
   open ctx use {library, table, home as h}
-  open frame_of ctx use {own, number}
+  open frame_of ctx use {own, piece, number}
 
   -- steps of the machine from a place and an expression stack, while the source has these items
   module _ (s : Source) (items : List Item) (m : State) (all : Shared ctx s m) (p : ℕ) (stack : List ℕ) where
@@ -221,43 +221,43 @@ module _ (ctx : Setting) where
     here = going m p stack
 
     -- both sides trap
-    pub trap_goes : (kind : TrapKind) (budget : ℕ) → current items ≡ ctx.stack.frame.activation → next library Now ≡ trapped library Now kind → mstep here ≡ (Trap kind, here) → 1 ≤ budget
+    pub trap_goes : (kind : TrapKind) (budget : ℕ) (i : Instr) (q : ℕ) → IsAt piece p i q → current items ≡ ctx.stack.frame.activation → next library Now ≡ trapped library Now kind → mstep here ≡ (Trap kind, here) → 1 ≤ budget
         → Goes ctx s items here budget
-    trap_goes kind budget close source machine less =
+    trap_goes kind budget i q at close source machine less =
         let run : Run = react (Trap kind) here (running here s.world) in
         goes_one_within ctx s items here budget 0 run (advances here s.world _ machine)
         (subst (λ (t : Source). Lands ctx t.phase t run 0) (sym source)
-        (both_trap ctx s items here kind all close))
+        (both_trap ctx s items here kind i q all at close))
         (omega (arith, less))
 
     -- The test that the number of a value is one of the kind's: it traps, or goes on at the place behind it with the same stack.
     pub number_tested : (k j : Kind) (v : Scalar) → is_base j ≡ true → within j v ≡ true → (below : List ℕ) → stack ≡ scalar_word v ∷ below
-        → (middle budget rest : ℕ) → InstrsAt own.code (test_code k j) p middle → current items ≡ ctx.stack.frame.activation
+        → (middle budget rest : ℕ) → InstrsAt piece (test_code k j) p middle → current items ≡ ctx.stack.frame.activation
         → (has k (ordinal_of v) ≡ false → next library Now ≡ trapped library Now trap.Range)
         → (has k (ordinal_of v) ≡ true → Goes ctx s items (going m middle stack) rest) → rest + 1 ≤ budget → Goes ctx s items here budget
     number_tested k j v base fits below is middle budget rest test close traps goes less = by (covers k j) refl test
       where
-        by_number : (q : ℕ) → mstep here ≡ (let r : Event × State = cond (has k (ordinal_of v)) (Went, going m q stack) (Trap trap.Range, here) in r) → q ≡ middle
+        by_number : (i : Instr) (q : ℕ) → IsAt piece p i q → mstep here ≡ (let r : Event × State = cond (has k (ordinal_of v)) (Went, going m q stack) (Trap trap.Range, here) in r) → q ≡ middle
             → (b : Bool) → has k (ordinal_of v) ≡ b → Goes ctx s items here budget
-        by_number q step end true one =
+        by_number i q at step end true one =
             goes_after ctx s items here (going m q stack) budget rest
             (advances here s.world _ (step ∙ yes _ _ _ one))
             (subst (λ (x : ℕ). Goes ctx s items (going m x stack) rest) (sym end) (goes one))
             less
-        by_number q step end false none =
-            trap_goes trap.Range budget close (traps none)
+        by_number i q at step end false none =
+            trap_goes trap.Range budget i q at close (traps none)
             (step ∙ ap (λ (b : Bool). let r : Event × State = cond b (Went, going m q stack) (Trap trap.Range, here) in r) none)
             (omega (arith, less))
 
-        by : (b : Bool) → covers k j ≡ b → InstrsAt own.code (cond b [] (range_code (compared_as j) (shared k j) ∷ [])) p middle → Goes ctx s items here budget
+        by : (b : Bool) → covers k j ≡ b → InstrsAt piece (cond b [] (range_code (compared_as j) (shared k j) ∷ [])) p middle → Goes ctx s items here budget
         by true e at =
             goes_more ctx s items here rest budget (subst (λ (x : ℕ). Goes ctx s items (going m x stack) rest) (sym at) (goes (covered k j (ordinal_of v) e (fits_has j v fits)))) (omega (arith, less))
         by false e (q, at, end) =
-            by_number q (at_step ctx here all.program (range_code (compared_as j) (shared k j)) q at ∙ test_act k j v own here below q base fits is) end (has k (ordinal_of v)) refl
+            by_number (range_code (compared_as j) (shared k j)) q at (at_step ctx here all.program (range_code (compared_as j) (shared k j)) q at ∙ test_act k j v own here below q base fits is) end (has k (ordinal_of v)) refl
 
     -- the test of a value that may be stored where one of the kind is wanted
     pub tested : (k j : Kind) (v : Scalar) → takes_value k j ≡ true → within j v ≡ true → (below : List ℕ) → stack ≡ scalar_word v ∷ below
-        → (middle budget rest : ℕ) → InstrsAt own.code (test_code k j) p middle → current items ≡ ctx.stack.frame.activation
+        → (middle budget rest : ℕ) → InstrsAt piece (test_code k j) p middle → current items ≡ ctx.stack.frame.activation
         → (within k v ≡ false → next library Now ≡ trapped library Now trap.Range)
         → (within k v ≡ true → Goes ctx s items (going m middle stack) rest) → rest + 1 ≤ budget → Goes ctx s items here budget
     tested k j v takes fits below is middle budget rest test close traps goes less =
@@ -266,7 +266,7 @@ module _ (ctx : Setting) where
 
     -- a value of the kind of a place is stored there
     pub stored_goes : (b : Access) (place : Place) (k : Kind) (under : List ℕ) → HasPlace ctx b place (Word k) under [] → readied b ≡ b → (v : Scalar) → within k v ≡ true → Refers h k v
-        → stack ≡ word_for h v ∷ under → (end : ℕ) → IsAt own.code p (store_code b) end
+        → stack ≡ word_for h v ∷ under → (end : ℕ) → IsAt piece p (store_code b) end
         → (after : List Item) → next library Now ≡ record s { items = after; cells = stored s.cells place (alone v); phase = Going }
         → (c budget : ℕ) (a : Around) → Rows ctx after Quiet end [] c a → c + 1 ≤ budget → Goes ctx s items here budget
     stored_goes b place k under has ready v fits refers is end at after becomes c budget a rows less =

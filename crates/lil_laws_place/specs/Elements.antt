@@ -53,7 +53,7 @@ index_is k j v takes one =
 
 module _ (ctx : Setting) where
   open ctx use {library, home as h}
-  open frame_of ctx use {own}
+  open frame_of ctx use {own, piece}
   open laid_out ctx use {layout as l}
 
   module _ (s : Source) (k : List Item) (m : State) (c : ℕ) (a : Around) (shared : Shared ctx s m) where
@@ -165,7 +165,7 @@ module _ (ctx : Setting) where
           (at_once ctx _ Quiet r.end (w ∷ below) c a
           (record { part = record { of = Follow d row.part.number; below = below; has = object_has o refers }; then = row.then }))))
       follows Nil is fits refers =
-          trap_goes ctx s pointing m shared row.part.did.here.loaded (0 ∷ below) trap.Nil (c + 1) (closed ctx k _ _ _ _ _ row.then)
+          trap_goes ctx s pointing m shared row.part.did.here.loaded (0 ∷ below) trap.Nil (c + 1) Nlt row.part.did.end row.part.did.here.test (closed ctx k _ _ _ _ _ row.then)
           (ap (λ (v : Scalar). pointed library v k then) is)
           (at_step ctx (going m row.part.did.here.loaded (0 ∷ below)) shared.program Nlt row.part.did.end row.part.did.here.test)
           (omega arith)
@@ -194,11 +194,11 @@ module _ (ctx : Setting) where
         let r = did.here in
         let items : List Item = Value (Places place) ∷ Fill (IndexBy kind e) ∷ k in
         let at : State = going m r.start (address h place ∷ below) in
-        let value = expression_stands l own.code e r.start r.middle r.value in
-        let test = instrs_order own.code _ r.middle r.tested r.test value.1 in
+        let value = expression_stands l piece e r.start r.middle r.value in
+        let test = instrs_order piece _ r.middle r.tested r.test value.1 in
         addressed ctx s items m shared (access_of l d) place (shape_of l.scope d) m.stack below is (omega (arith, did.shallow)) m.place r.start (c + 32) c (rw row.part.at r.address)
         (operand_exact ctx s k at c a shared items e (IndexAt place kind) refl (omega arith) r.middle r.value (omega (arith, did.shallow))
-        (omega (arith, test.0, instr_within own.code r.tested _ did.end r.by))
+        (omega (arith, test.0, instr_within piece r.tested _ did.end r.by))
         (record {
           part = record {
             of = d;

@@ -45,7 +45,7 @@ extended xs y w less = (omega (arith, less, one_longer xs y), other_address xs y
 
 module _ (ctx : Setting) where
   open ctx use {library, home as h, stack as st}
-  open frame_of ctx use {own}
+  open frame_of ctx use {own, piece}
   open laid_out ctx use {layout as l}
 
   module _ (s : Source) (k : List Item) (m : State) (c : ℕ) (a : Around) (shared : Shared ctx s m) where
@@ -66,9 +66,9 @@ module _ (ctx : Setting) where
         let r = amid.here in
         let items : List Item = Value (Places place) ∷ Fill (AllocateBy back e) ∷ k in
         let at : State = going m r.start (address h place ∷ below) in
-        let value = expression_stands l own.code e r.start r.value.middle r.value.value.value in
-        let test = instrs_order own.code _ r.value.middle r.middle r.value.test value.1 in
-        let code = instrs_order own.code (allocate_code back) r.middle amid.end r.by (omega (arith, test.0)) in
+        let value = expression_stands l piece e r.start r.value.middle r.value.value.value in
+        let test = instrs_order piece _ r.value.middle r.middle r.value.test value.1 in
+        let code = instrs_order piece (allocate_code back) r.middle amid.end r.by (omega (arith, test.0)) in
         addressed ctx s items m shared (access_of l d) place (shape_of l.scope d) m.stack below has (omega (arith, ap length row.part.empty)) m.place r.start (c + 32) c (rw amid.at r.address)
         (operand_exact ctx s k at c a shared items e (AllocateAt back place) refl (omega arith) r.value.middle r.value.value.value (omega (arith, r.value.value.shallow, ap length row.part.empty))
         (omega (arith, test.0, code.0, amid.within))
@@ -90,7 +90,7 @@ module _ (ctx : Setting) where
       takes : (back : Bool) → Waiting ctx (Fill (AllocateAt back place)) Rest (ValueOf j) m.place below c a → takes_value (OfWhole Cardinal) j ≡ true
       takes back row = ap (takes_value (OfWhole Cardinal)) row.part.same ∙ row.part.amid.here.takes
 
-      test : (back : Bool) (row : Waiting ctx (Fill (AllocateAt back place)) Rest (ValueOf j) m.place below c a) → InstrsAt own.code (test_code (OfWhole Cardinal) j) m.place row.part.amid.here.middle
+      test : (back : Bool) (row : Waiting ctx (Fill (AllocateAt back place)) Rest (ValueOf j) m.place below c a) → InstrsAt piece (test_code (OfWhole Cardinal) j) m.place row.part.amid.here.middle
       test back row = rw (row.part.amid.at, row.part.same) row.part.amid.here.value.test
 
       -- DEALLOCATE drops it

@@ -14,11 +14,11 @@ use Rattle.lil_laws_stmt.specs.Painting.{free_fixed}
 
 module _ (ctx : Setting) where
   open ctx use {library, home as h, stack as st}
-  open frame_of ctx use {own}
+  open frame_of ctx use {own, piece}
 
   -- an instruction takes a block of so many words, while the source has these items
   module _ (s : Source) (items k : List Item) (m : State) (c : ℕ) (a : Around) (shared : Shared ctx s m) (place : Place) (low : address (ctx.home) place + 1 ≤ 65535) (words start end : ℕ)
-      (row : IsAt (ctx.stack.frame.own.code) start Alc end) where
+      (row : IsAt (ctx.stack.frame.piece) start Alc end) where
     abbrev now : Source
     now = record s { items = items; phase = Going }
 
@@ -129,7 +129,7 @@ module _ (ctx : Setting) where
                 shared = record {
                   mem = filled.mem;
                   heap = filled.heap;
-                  program = record { table_is = shared.program.table_is; known = shared.program.known; running_is = shared.program.running_is; marked_is = shared.program.marked_is };
+                  program = record { table_is = shared.program.table_is; known = shared.program.known; piece = shared.program.piece; running_is = shared.program.running_is; marked_is = shared.program.marked_is };
                   standing = record {
                     frame_is = g.frame_is;
                     base_is = g.base_is;

@@ -18,7 +18,7 @@ module _ (ctx : Setting) (f b : Frame) (bs : List Frame) where
   abbrev beginning : Setting
   beginning = with_frames ctx b [] bs
 
-  module _ (s : Source) (m : State) (shared : Shared ending s m) (n : ℕ) (k : List Item) (c : ℕ) (end : ℕ) (leave : IsAt f.own.code m.place Rtn end) (next : NextBody ending b (RowsOf k beginning) c) where
+  module _ (s : Source) (m : State) (shared : Shared ending s m) (n : ℕ) (k : List Item) (c : ℕ) (end : ℕ) (leave : IsAt f.piece m.place Rtn end) (next : NextBody ending b (RowsOf k beginning) c) where
     abbrev h : Home
     h = ctx.home
 
@@ -58,7 +58,7 @@ module _ (ctx : Setting) (f b : Frame) (bs : List Frame) where
     -- the row of ENT
     entering : mstep begun ≡ enter_row b.layout.frame next.start begun
     entering =
-        at_step beginning begun (record { table_is = shared.program.table_is; known = comes.known.known; running_is = refl; marked_is = shared.program.marked_is }) (Ent b.layout.frame) next.start next.enter
+        at_step beginning begun (record { table_is = shared.program.table_is; known = comes.known.known; piece = comes.known.piece; running_is = refl; marked_is = shared.program.marked_is }) (Ent b.layout.frame) next.start next.enter
 
     -- ---- without room
     pub goes_short : ctx.stack.limit < b.at + b.layout.frame → Goes ending s (Perform (End n) ∷ k) m (c + 32)
@@ -182,7 +182,7 @@ module _ (ctx : Setting) (f b : Frame) (bs : List Frame) where
               shared = record {
                 mem = mem;
                 heap = shared.heap;
-                program = record { table_is = shared.program.table_is; known = comes.known.known; running_is = refl; marked_is = shared.program.marked_is };
+                program = record { table_is = shared.program.table_is; known = comes.known.known; piece = comes.known.piece; running_is = refl; marked_is = shared.program.marked_is };
                 standing = record {
                   frame_is = g.base_is ∙ sym comes.at;
                   base_is = g.base_is;

@@ -1,16 +1,16 @@
 -- Calls of procedures: a mark, the call, and the words of the frame.
-use Rattle.std.proofs.Common.{◌≡◌, ℕ, zero, suc, ◌+◌, ◌-◌, ◌<◌, ◌≤◌, ◌⊎◌, inl, inr, Option, Some, None, List, [], ◌∷◌, ◌++◌, length, get_or, drop-cons, refl, sym, ap, ◌∙◌, subst, ⊎_elim, arith, eq-eqb}
+use Rattle.std.proofs.Common.{◌≡◌, ℕ, zero, suc, ◌+◌, ◌-◌, ◌<◌, ◌≤◌, ◌⊎◌, inl, inr, Option, Some, None, List, [], ◌∷◌, ◌++◌, length, get_or, map, drop-cons, refl, sym, ap, ◌∙◌, subst, ⊎_elim, arith, eq-eqb}
 use Rattle.std.specs.Prelude.{slice_get, option_map}
-use Rattle.std.proofs.lemmas.{Bool.{lt-ltb, le-ltb, le-leb, cases_lt, and_from}, Option.slice_get_within}
+use Rattle.std.proofs.lemmas.{Bool.{lt-ltb, le-ltb, le-leb, cases_lt, and_from}, Option.{none-some, same_Some, slice_get_within}}
 use Rattle.lil_base.specs.declared.fault.LimitKind.TheVariants as limit
-use Rattle.lil_resolved.specs.{Resolved.{Procedure, Call, Statements, Empty, Then, Resolved, procedure_by}, Sizes.frame_words}
+use Rattle.lil_resolved.specs.{Kinds.Declared, Resolved.{Procedure, Call, Statements, Empty, Then, Resolved, procedure_by, around_of}, Sizes.frame_words}
 use Rattle.lil_meaning.specs.{Items.{loaded_at, Do, End, Item, Perform, Activation, Going, Source, doing}, Need.{frame_by, frame_of, cost, unless_body, with_callers, chain}, Steps.{next, current, owner_of, procedure_of, procedures_of, procedure_name, its_name, outer_of, level_out, declaring, entered, called_by}}
-use Rattle.lil_asm.specs.declared.instr.Instr.TheVariants.{Mrk, Cll, Ent, Rtn}
+use Rattle.lil_asm.specs.{declared.instr.Instr.TheVariants.{Mrk, Cll, Ent, Rtn}, Stretches.stretch}
 use Rattle.lil_mcode.specs.Table.{Module, State, stack_of, module_at, mstep, frame_out, link_word, mark_row, its_entry, entry_in, called_row, enter_row}
 use Rattle.lil_frames.specs.Words.{spliced, zeros, cleared}
-use Rattle.lil_table.specs.Rows.{Declared, loop_place}
-use Rattle.lil_match.specs.{Goes.{OwnWords, Grows, Linked, Entered, IsKnown, Shared, IsShort, Lands, Goes}, Running.{running, advanced}, Parts.{yes, no}, Homes.{Own, Fixed, Free, Home, extends_self, Mem, Stays, Turns, mem_turned, fixed_turned}, Splices.{spliced_length, spliced_before, spliced_there, spliced_after, zeros_length}}
-use Rattle.lil_match.specs.{Waits.{Quiet, Around, outside, Frame, Stack, frames_of, Setting, laid_out, renewed, Rows, Ahead, Waiting, frame_of as frame_at}, Known.{known_kept, each_known, each_comes}, Kept.{EachAbove, first_words, stack_above, stands_kept, chained_kept, loops_fit, rows_renewed}, Laid.known_part}
+use Rattle.lil_table.specs.Rows.{loop_place}
+use Rattle.lil_match.specs.{Goes.{OwnWords, IsPiece, Grows, Linked, Entered, IsKnown, Shared, IsShort, Lands, Goes}, Running.{running, advanced}, Parts.{yes, no}, Homes.{Own, Fixed, Free, Home, extends_self, Mem, Stays, Turns, mem_turned, fixed_turned}, Splices.{spliced_length, spliced_before, spliced_there, spliced_after, zeros_length}}
+use Rattle.lil_match.specs.{Waits.{Quiet, Around, outside, with_frames, Frame, Stack, frames_of, Setting, laid_out, renewed, Rows, Ahead, Waiting, frame_of as frame_at}, Known.{known_kept, each_known, each_comes}, Kept.{EachAbove, first_words, stack_above, stands_kept, chained_kept, loops_fit, rows_renewed}, Laid.known_part}
 use Rattle.lil_match.specs.{Costs.{cost_of, known_costs, each_costs, items_cost, top_low}, Climbs.{Climbs, climbs, first_own}, Steps.{closed, advances, at_step, at_once, rows_ahead, goes_after, goes_full, goes_one_grown}, Orders.instr_within}
 use Rattle.lil_laws_stmt.specs.{Painting.{painted, painted_there, painted_beside, Side, Before, Between, Behind', side}, Control.body_rows}
 
@@ -40,6 +40,18 @@ numbered : (ps : List Procedure) (p : ℕ) (q : Procedure) → procedure_by ps p
 numbered ps zero q e = absurd (none_procedure q e)
 numbered ps (suc p) q e = record { before = p; is = refl }
 
+-- a procedure of which it is known which are around it
+pub record Found (ps : List Procedure) (p : ℕ) (around : List ℕ) : Type 0 where
+  pub its : Procedure
+  pub there : procedure_by ps p ≡ Some its
+  pub same : its.around ≡ around
+
+pub found : (ps : List Procedure) (p : ℕ) (around : List ℕ) → procedure_by (map around_of ps) p ≡ Some around → Found ps p around
+found ps zero around e = absurd (none-some around e)
+found [] (suc p) around e = absurd (none-some around e)
+found (q ∷ ps) (suc zero) around e = record { its = q; there = refl; same = same_Some q.around around e }
+found (q ∷ ps) (suc (suc p)) around e = let f = found ps (suc p) around e in record { its = f.its; there = f.there; same = f.same }
+
 frame_known : (o : Option Resolved) (p : ℕ) (q : Procedure) → procedure_by (procedures_of o) p ≡ Some q → frame_of o p ≡ frame_words q.body
 frame_known o zero q e = absurd (none_procedure q e)
 frame_known None (suc p) q e = absurd (none_procedure q e)
@@ -56,7 +68,7 @@ doing_chain library loaded acts (Then s ss) k = doing_chain library loaded acts 
 
 module _ (ctx : Setting) where
   open ctx use {library, loaded, table, activations, home as h, stack as st}
-  open frame_at ctx use {own}
+  open frame_at ctx use {own, piece}
   open laid_out ctx use {layout as l}
 
   module _ (s : Source) (k : List Item) (m : State) (c : ℕ) (a : Around) (shared : Shared ctx s m) (proc levels : ℕ)
@@ -70,21 +82,27 @@ module _ (ctx : Setting) where
     abbrev back : ℕ
     back = row.part.end
 
-    known : IsKnown ctx.library ctx.loaded ctx.table ctx.activations ctx.home ctx.stack.frame
+    pub known : IsKnown ctx.library ctx.loaded ctx.table ctx.activations ctx.home ctx.stack.frame
     known = shared.standing.known
 
     close : current k ≡ ctx.stack.frame.activation
     close = closed ctx k _ _ _ _ _ row.then
 
     -- what is called, on both sides
+    abbrev what : Found (procedures_of (loaded_at ctx.library ctx.loaded ctx.stack.frame.number)) proc row.part.here.may.around
+    what = found (procedures_of (loaded_at ctx.library ctx.loaded ctx.stack.frame.number)) proc row.part.here.may.around (ap (λ (xs : List (List ℕ)). procedure_by xs proc) (sym known.procedures) ∙ row.part.here.may.known)
+
     abbrev its : Procedure
-    its = row.part.here.its
+    its = what.its
+
+    declared : Declared ctx.stack.frame.layout.scope.chain levels its.around
+    declared = subst (Declared ctx.stack.frame.layout.scope.chain levels) (sym what.same) row.part.here.may.declared
 
     abbrev size : ℕ
-    size = frame_words row.part.here.its.body
+    size = frame_words its.body
 
-    pub code : Entered ctx.stack.frame.own ctx.stack.frame.layout proc row.part.here.its
-    code = shared.standing.known.codes proc row.part.here.its row.part.here.known
+    pub code : Entered ctx.stack.frame.own ctx.stack.frame.layout proc its
+    code = shared.standing.known.codes proc its what.there
 
     owner_is : owner_of (slice_get s.activations (current k)) ≡ ctx.stack.frame.number
     owner_is = cc (close, shared.activations_are, known.owner)
@@ -98,12 +116,12 @@ module _ (ctx : Setting) where
     abbrev entering : Source
     entering = record s {
       activations = s.activations ++ called_by s.activations (owner_of (slice_get s.activations (current k))) (current k) proc levels ∷ [];
-      items = doing row.part.here.its.body (Perform (End (length s.activations)) ∷ k);
+      items = doing its.body (Perform (End (length s.activations)) ∷ k);
       phase = Going;
     }
 
-    listed : procedure_by (procedures_of (loaded_at ctx.library ctx.loaded ctx.stack.frame.number)) proc ≡ Some row.part.here.its
-    listed = ap (λ (ps : List Procedure). procedure_by ps proc) (sym known.procedures) ∙ row.part.here.known
+    listed : procedure_by (procedures_of (loaded_at ctx.library ctx.loaded ctx.stack.frame.number)) proc ≡ Some its
+    listed = what.there
 
     becomes : next ctx.library now ≡ entering
     becomes =
@@ -120,7 +138,7 @@ module _ (ctx : Setting) where
     runs = ap (λ (z : List Activation). slice_get all (length z)) shared.activations_are ∙ last_there ctx.activations new
 
     number : Numbered proc
-    number = numbered l.procedures proc row.part.here.its row.part.here.known
+    number = numbered (procedures_of (loaded_at ctx.library ctx.loaded ctx.stack.frame.number)) proc its what.there
 
     -- ---- where all stands
     words : OwnWords ctx.home.owner ctx.stack.frame m.top
@@ -132,6 +150,24 @@ module _ (ctx : Setting) where
     loops : loop_place a.taken ≤ ctx.stack.frame.layout.frame
     loops = loops_fit k ctx Quiet row.part.end [] c a words.mark row.then
 
+    -- ---- the new frame
+    abbrev frame : Frame
+    frame = record {
+      activation = length s.activations;
+      number = ctx.stack.frame.number;
+      procedure = proc;
+      own = ctx.stack.frame.own;
+      entry = code.entry;
+      after = code.after;
+      piece = stretch code.entry code.after ctx.stack.frame.own.code;
+      layout = code.inner;
+      at = m.top;
+      back = row.part.end;
+    }
+
+    piece_is : IsPiece frame
+    piece_is = record { is = refl; within = code.within }
+
     -- ---- the machine
     abbrev marked : State
     marked = record m { place = row.part.here.middle; top = m.top + 4; store = spliced m.store m.top (link_word levels m ∷ 0 ∷ 0 ∷ 0 ∷ []) }
@@ -140,7 +176,7 @@ module _ (ctx : Setting) where
     called = record m { place = code.entry; frame = m.top; top = m.top + 4; store = spliced (spliced m.store m.top (link_word levels m ∷ 0 ∷ 0 ∷ 0 ∷ [])) (m.top + 1) (m.frame ∷ row.part.end ∷ m.running ∷ []) }
 
     abbrev inside : State
-    inside = record m { place = code.code.start; frame = m.top; top = m.top + frame_words row.part.here.its.body; store = cleared called.store (m.top + 4) (m.top + frame_words row.part.here.its.body) }
+    inside = record m { place = code.code.start; frame = m.top; top = m.top + frame_words its.body; store = cleared called.store (m.top + 4) (m.top + frame_words its.body) }
 
     marking : mstep m ≡ mark_row levels row.part.here.middle m
     marking = at_step ctx m shared.program (Mrk levels) row.part.here.middle row.part.here.mark
@@ -162,21 +198,21 @@ module _ (ctx : Setting) where
         ∙ ap (λ (at : ℕ). called_row m.running at row.part.end marked (Some code.entry)) (let e : m.top + 4 - 0 - 4 ≡ m.top = omega arith in e)
         )
 
-    enters : mstep called ≡ enter_row (frame_words row.part.here.its.body) code.code.start called
-    enters = at_step ctx called shared.program (Ent (frame_words row.part.here.its.body)) code.code.start code.code.enter
+    enters : mstep called ≡ enter_row (frame_words its.body) code.code.start called
+    enters = at_step (with_frames ctx frame [] []) called (record { table_is = shared.program.table_is; known = shared.program.known; piece = piece_is; running_is = shared.program.running_is; marked_is = shared.program.marked_is }) (Ent (frame_words its.body)) code.code.start code.code.enter
 
     -- ---- without room
     -- what the next state needs
-    calls_cost : chain ctx.library s.loaded entering.activations entering.items ≡ (frame_words row.part.here.its.body + 17) + cost_of (ctx.stack.frame ∷ ctx.stack.callers)
+    calls_cost : chain ctx.library s.loaded entering.activations entering.items ≡ (frame_words its.body + 17) + cost_of (ctx.stack.frame ∷ ctx.stack.callers)
     calls_cost =
-        doing_chain ctx.library s.loaded entering.activations row.part.here.its.body (Perform (End (length s.activations)) ∷ k)
+        doing_chain ctx.library s.loaded entering.activations its.body (Perform (End (length s.activations)) ∷ k)
         ∙ ap (λ (z : List Activation). chain ctx.library s.loaded (z ++ new ∷ []) (Perform (End (length s.activations)) ∷ k)) shared.activations_are
         ∙ ap (λ (ns : List ℕ). chain ctx.library ns all (Perform (End (length s.activations)) ∷ k)) shared.loaded_are
         ∙ ap (λ (o : Option Activation). cost ctx.library ctx.loaded o + with_callers o (chain ctx.library ctx.loaded all k)) runs
         ∙ ap (λ (p : ℕ). cost ctx.library ctx.loaded (Some new) + unless_body p (chain ctx.library ctx.loaded all k)) number.is
         ∙ ap (λ (i : ℕ). (frame_of (loaded_at ctx.library ctx.loaded i) proc + 17) + chain ctx.library ctx.loaded all k) owner_is
-        ∙ ap (λ (w : ℕ). (w + 17) + chain ctx.library ctx.loaded all k) (frame_known (loaded_at ctx.library ctx.loaded ctx.stack.frame.number) proc row.part.here.its listed)
-        ∙ ap (λ (w : ℕ). (frame_words row.part.here.its.body + 17) + w) under
+        ∙ ap (λ (w : ℕ). (w + 17) + chain ctx.library ctx.loaded all k) (frame_known (loaded_at ctx.library ctx.loaded ctx.stack.frame.number) proc its listed)
+        ∙ ap (λ (w : ℕ). (frame_words its.body + 17) + w) under
       where
         under : chain ctx.library ctx.loaded all k ≡ cost_of (ctx.stack.frame ∷ ctx.stack.callers)
         under =
@@ -188,7 +224,7 @@ module _ (ctx : Setting) where
               each_costs ctx.library ctx.loaded ctx.table all ctx.home ctx.stack.callers (each_known ctx.library ctx.loaded ctx.table ctx.activations all grows ctx.home ctx.home (λ r e. refl) (λ r e. refl) refl (λ i e. (e, refl)) ctx.stack.callers shared.standing.callers),
             )
 
-    short : m.limit < m.top + frame_words row.part.here.its.body → IsShort ctx.library ctx.stack.base (next ctx.library now)
+    short : m.limit < m.top + frame_words its.body → IsShort ctx.library ctx.stack.base (next ctx.library now)
     short less = subst (IsShort ctx.library ctx.stack.base) (sym becomes) (record {
       less = omega (arith, calls_cost, less, shared.heap.rest, shared.standing.limit_is, top_low h.owner st.base m.top st.frame st.callers shared.standing.stands);
     })
@@ -201,12 +237,12 @@ module _ (ctx : Setting) where
         )
 
     -- ---- with room
-    module _ (room : m.top + frame_words row.part.here.its.body ≤ ctx.stack.limit) where
+    module _ (room : m.top + frame_words its.body ≤ ctx.stack.limit) where
       abbrev lo : ℕ
       lo = m.top
 
       abbrev hi : ℕ
-      hi = m.top + frame_words row.part.here.its.body
+      hi = m.top + frame_words its.body
 
       abbrev first : List ℕ
       first = link_word levels m ∷ 0 ∷ 0 ∷ 0 ∷ []
@@ -215,12 +251,12 @@ module _ (ctx : Setting) where
       second = m.frame ∷ row.part.end ∷ m.running ∷ []
 
       abbrev blank : List ℕ
-      blank = zeros (m.top + frame_words row.part.here.its.body - (m.top + 4))
+      blank = zeros (m.top + frame_words its.body - (m.top + 4))
 
-      blank_long : length (zeros (m.top + frame_words row.part.here.its.body - (m.top + 4))) ≡ m.top + frame_words row.part.here.its.body - (m.top + 4)
-      blank_long = zeros_length (m.top + frame_words row.part.here.its.body - (m.top + 4))
+      blank_long : length (zeros (m.top + frame_words its.body - (m.top + 4))) ≡ m.top + frame_words its.body - (m.top + 4)
+      blank_long = zeros_length (m.top + frame_words its.body - (m.top + 4))
 
-      low : m.top + frame_words row.part.here.its.body ≤ 65535
+      low : m.top + frame_words its.body ≤ 65535
       low = omega (arith, room, shared.standing.high)
 
       first_room : m.top + length first ≤ length m.store
@@ -241,7 +277,7 @@ module _ (ctx : Setting) where
       long : length inside.store ≡ 65536
       long = spliced_length called.store (m.top + 4) blank third_room ∙ second_long
 
-      stays : (i : ℕ) → (i < m.top) ⊎ (m.top + frame_words row.part.here.its.body ≤ i) → get_or inside.store i 0 ≡ get_or m.store i 0
+      stays : (i : ℕ) → (i < m.top) ⊎ (m.top + frame_words its.body ≤ i) → get_or inside.store i 0 ≡ get_or m.store i 0
       stays i (inl z) =
           spliced_before called.store (m.top + 4) blank i third_room (omega (arith, z))
           ∙ spliced_before marked.store (m.top + 1) second i second_room (omega (arith, z))
@@ -266,32 +302,32 @@ module _ (ctx : Setting) where
       -- the frame's words are the machine's own
       abbrev x : Home
       x = record (ctx.home) {
-        owner = painted ctx.home.owner m.top (m.top + frame_words row.part.here.its.body) (λ i. Own);
-        shadow = painted ctx.home.shadow m.top (m.top + frame_words row.part.here.its.body) (λ i. get_or inside.store i 0);
+        owner = painted ctx.home.owner m.top (m.top + frame_words its.body) (λ i. Own);
+        shadow = painted ctx.home.shadow m.top (m.top + frame_words its.body) (λ i. get_or inside.store i 0);
       }
 
       abbrev Beside : ℕ → Type 0
-      Beside i = (i < m.top) ⊎ ((m.top ≤ i) × (m.top + frame_words row.part.here.its.body ≤ i))
+      Beside i = (i < m.top) ⊎ ((m.top ≤ i) × (m.top + frame_words its.body ≤ i))
 
-      owner_own : (i : ℕ) → m.top ≤ i → i < m.top + frame_words row.part.here.its.body → x.owner i ≡ Own
-      owner_own i from below = painted_there ctx.home.owner m.top (m.top + frame_words row.part.here.its.body) (λ j. Own) i from below
+      owner_own : (i : ℕ) → m.top ≤ i → i < m.top + frame_words its.body → x.owner i ≡ Own
+      owner_own i from below = painted_there ctx.home.owner m.top (m.top + frame_words its.body) (λ j. Own) i from below
 
       owner_beside : (i : ℕ) → Beside i → x.owner i ≡ ctx.home.owner i
-      owner_beside i o = painted_beside ctx.home.owner m.top (m.top + frame_words row.part.here.its.body) (λ j. Own) i o
+      owner_beside i o = painted_beside ctx.home.owner m.top (m.top + frame_words its.body) (λ j. Own) i o
 
-      shadow_there : (i : ℕ) → m.top ≤ i → i < m.top + frame_words row.part.here.its.body → x.shadow i ≡ get_or inside.store i 0
-      shadow_there i from below = painted_there ctx.home.shadow m.top (m.top + frame_words row.part.here.its.body) (λ j. get_or inside.store j 0) i from below
+      shadow_there : (i : ℕ) → m.top ≤ i → i < m.top + frame_words its.body → x.shadow i ≡ get_or inside.store i 0
+      shadow_there i from below = painted_there ctx.home.shadow m.top (m.top + frame_words its.body) (λ j. get_or inside.store j 0) i from below
 
       shadow_beside : (i : ℕ) → Beside i → x.shadow i ≡ ctx.home.shadow i
-      shadow_beside i o = painted_beside ctx.home.shadow m.top (m.top + frame_words row.part.here.its.body) (λ j. get_or inside.store j 0) i o
+      shadow_beside i o = painted_beside ctx.home.shadow m.top (m.top + frame_words its.body) (λ j. get_or inside.store j 0) i o
 
-      was_free : (i : ℕ) → m.top ≤ i → i < m.top + frame_words row.part.here.its.body → ctx.home.owner i ≡ Free ctx.stack.base
+      was_free : (i : ℕ) → m.top ≤ i → i < m.top + frame_words its.body → ctx.home.owner i ≡ Free ctx.stack.base
       was_free i from below = shared.standing.room i from (omega (arith, below, room))
 
       each : (i : ℕ) → Stays h x m.store inside.store i ⊎ Turns h x inside.store i
-      each i = by (side m.top (m.top + frame_words row.part.here.its.body) i)
+      each i = by (side m.top (m.top + frame_words its.body) i)
         where
-          by : Side m.top (m.top + frame_words row.part.here.its.body) i → Stays h x m.store inside.store i ⊎ Turns h x inside.store i
+          by : Side m.top (m.top + frame_words its.body) i → Stays h x m.store inside.store i ⊎ Turns h x inside.store i
           by (Before z) = inl (record { owner = owner_beside i (inl z); shadow = shadow_beside i (inl z); word = stays i (inl z) })
           by (Between z y) = inr (record { before = inr (ctx.stack.base, was_free i z y); after = inl (owner_own i z y); word = λ own. sym (shadow_there i z y) })
           by (Behind' z y) = inl (record { owner = owner_beside i (inr (z, y)); shadow = shadow_beside i (inr (z, y)); word = stays i (inr y) })
@@ -302,18 +338,6 @@ module _ (ctx : Setting) where
       fixed_kept : (i : ℕ) → ctx.home.owner i ≡ Fixed → (x.owner i ≡ Fixed) × (x.shadow i ≡ ctx.home.shadow i)
       fixed_kept = fixed_turned h m.store inside.store x.owner x.shadow h.workspaces each
 
-      -- ---- the new frame
-      abbrev frame : Frame
-      frame = record {
-        activation = length s.activations;
-        number = ctx.stack.frame.number;
-        procedure = proc;
-        own = ctx.stack.frame.own;
-        layout = code.inner;
-        at = m.top;
-        back = row.part.end;
-      }
-
       abbrev stack : Stack
       stack = record (ctx.stack) { frame = frame; callers = ctx.stack.frame ∷ ctx.stack.callers }
 
@@ -323,16 +347,17 @@ module _ (ctx : Setting) where
       new_known : IsKnown ctx.library ctx.loaded ctx.table all x frame
       new_known =
           let kept = known_kept ctx.library ctx.loaded ctx.table ctx.activations ctx.activations (λ i b e. e) h x (λ r e. refl) (λ r e. refl) refl fixed_kept ctx.stack.frame known in
-          known_part ctx.library ctx.loaded ctx.table ctx.activations all x ctx.stack.frame code.inner (length s.activations) proc m.top row.part.end code.part new runs (ap owner_of runs ∙ owner_is) (ap procedure_of runs)
-          (record { entry = code.entry; there = code.there ∙ ap (λ (n : Option (List ℕ)). Some (code.entry, n)) (sym (name_known (loaded_at ctx.library ctx.loaded ctx.stack.frame.number) proc row.part.here.its listed)) })
-          (code.frame ∙ sym (frame_known (loaded_at ctx.library ctx.loaded ctx.stack.frame.number) proc row.part.here.its listed)) kept
+          known_part ctx.library ctx.loaded ctx.table ctx.activations all x ctx.stack.frame code.inner (length s.activations) proc code.entry code.after (stretch code.entry code.after ctx.stack.frame.own.code) m.top row.part.end code.part new runs (ap owner_of runs ∙ owner_is) (ap procedure_of runs)
+          (record { there = code.there ∙ ap (λ (n : Option (List ℕ)). Some (code.entry, n)) (sym (name_known (loaded_at ctx.library ctx.loaded ctx.stack.frame.number) proc its listed)); apart = code.apart })
+          piece_is
+          (code.frame ∙ sym (frame_known (loaded_at ctx.library ctx.loaded ctx.stack.frame.number) proc its listed)) kept
 
       -- its first word says where the frame of the activation around it begins
-      linked : (n : ℕ) → levels ≡ n → Declared ctx.stack.frame.layout.chain n row.part.here.its.around
-          → Linked x.shadow all (length s.activations) m.top (proc ∷ row.part.here.its.around) (ctx.stack.frame ∷ ctx.stack.callers)
+      linked : (n : ℕ) → levels ≡ n → Declared ctx.stack.frame.layout.scope.chain n its.around
+          → Linked x.shadow all (length s.activations) m.top (proc ∷ its.around) (ctx.stack.frame ∷ ctx.stack.callers)
       linked zero e d = subst (λ (es : List ℕ). Linked x.shadow all (length s.activations) m.top (proc ∷ es) (ctx.stack.frame ∷ ctx.stack.callers)) (sym d) tt
       linked (suc i) e d =
-          let one = drop-cons ctx.stack.frame.layout.chain i 0 d.0 in
+          let one = drop-cons ctx.stack.frame.layout.scope.chain i 0 d.0 in
           let up : Climbs ctx.activations m.store ctx.stack.frame ctx.stack.callers i =
           climbs h.shadow ctx.activations m.store st.frame st.callers shared.standing.links
           (λ g among. shared.mem.kept g.at (first_own h.owner st.base m.top st.frame st.callers shared.standing.stands g among)) i d.0 in
@@ -356,8 +381,8 @@ module _ (ctx : Setting) where
       enters_it : advanced (running called s.world) ≡ running inside s.world
       enters_it = advances called s.world _ (
           enters
-          ∙ no _ _ _ (le-ltb (m.top + frame_words row.part.here.its.body) (m.top + 4) (omega arith))
-          ∙ no _ _ _ (le-ltb m.limit (m.top + frame_words row.part.here.its.body) (omega (arith, room, shared.standing.limit_is)))
+          ∙ no _ _ _ (le-ltb (m.top + frame_words its.body) (m.top + 4) (omega arith))
+          ∙ no _ _ _ (le-ltb m.limit (m.top + frame_words its.body) (omega (arith, room, shared.standing.limit_is)))
           )
 
       below_same : (i : ℕ) → i < m.top → x.owner i ≡ ctx.home.owner i
@@ -387,7 +412,7 @@ module _ (ctx : Setting) where
               shared = record {
                 mem = mem;
                 heap = shared.heap;
-                program = record { table_is = shared.program.table_is; known = shared.program.known; running_is = shared.program.running_is; marked_is = shared.program.marked_is };
+                program = record { table_is = shared.program.table_is; known = shared.program.known; piece = piece_is; running_is = shared.program.running_is; marked_is = shared.program.marked_is };
                 standing = record {
                   frame_is = refl;
                   base_is = g.base_is;
@@ -409,7 +434,7 @@ module _ (ctx : Setting) where
                     stands_kept h.owner x.owner st.base m.top st.frame st.callers (λ i from below. below_same i below) g.stands,
                   );
                   links = (
-                    subst (λ (es : List ℕ). Linked x.shadow all (length s.activations) m.top es (ctx.stack.frame ∷ ctx.stack.callers)) (sym code.chain) (linked levels refl row.part.here.declared),
+                    subst (λ (es : List ℕ). Linked x.shadow all (length s.activations) m.top es (ctx.stack.frame ∷ ctx.stack.callers)) (sym code.chain) (linked levels refl declared),
                     chained_kept h.shadow x.shadow ctx.activations all grows h.owner st.base m.top st.frame st.callers g.stands (λ i from below. shadow_beside i (inl (omega (arith, below, words.mark, words.below)))) g.links,
                   );
                   room = λ i from below. owner_beside i (inr (omega (arith, from), from)) ∙ g.room i (omega (arith, from)) below;
@@ -425,7 +450,7 @@ module _ (ctx : Setting) where
               around = outside;
               ahead = subst (λ (z : List ℕ). Ahead within entering.items Quiet code.code.start z c outside) (sym row.part.empty)
                   (rows_ahead within entering.items code.code.start [] c outside
-                  (body_rows within row.part.here.its.body (Perform (End (length s.activations)) ∷ k) code.code.start code.code.end c outside code.code.body (instr_within own.code code.code.end Rtn code.code.after code.code.leave)
+                  (body_rows within its.body (Perform (End (length s.activations)) ∷ k) code.code.start code.code.end c outside code.code.body (instr_within (stretch code.entry code.after ctx.stack.frame.own.code) code.code.end Rtn code.after code.code.leave)
                   (at_once within _ Quiet code.code.end [] c outside
                   (record {
                     quiet = refl;
@@ -433,7 +458,7 @@ module _ (ctx : Setting) where
                     activation = refl;
                     alone = refl;
                     free = code.free;
-                    end = code.code.after;
+                    end = code.after;
                     leave = code.code.leave;
                     behind = record {
                       before = number.before;
@@ -468,13 +493,13 @@ module _ (ctx : Setting) where
         (λ (some : m.top + 4 ≤ m.limit).
         goes_after ctx s items m marked (c + 32) (c + 31) (marks some)
         (goes_after ctx s items marked called (c + 31) (c + 30) calls
-        (⊎_elim (λ (less : m.limit < m.top + frame_words row.part.here.its.body).
+        (⊎_elim (λ (less : m.limit < m.top + frame_words its.body).
         goes_full ctx s items called (c + 30) limit.Stack
         (enters
-        ∙ no _ _ _ (le-ltb (m.top + frame_words row.part.here.its.body) (m.top + 4) (omega arith))
-        ∙ yes _ _ _ (lt-ltb m.limit (m.top + frame_words row.part.here.its.body) less))
+        ∙ no _ _ _ (le-ltb (m.top + frame_words its.body) (m.top + 4) (omega arith))
+        ∙ yes _ _ _ (lt-ltb m.limit (m.top + frame_words its.body) less))
         (short less, more) (omega arith))
-        (λ (fits : m.top + frame_words row.part.here.its.body ≤ m.limit). goes_in (omega (arith, fits, shared.standing.limit_is)))
-        (cases_lt m.limit (m.top + frame_words row.part.here.its.body)))
+        (λ (fits : m.top + frame_words its.body ≤ m.limit). goes_in (omega (arith, fits, shared.standing.limit_is)))
+        (cases_lt m.limit (m.top + frame_words its.body)))
         (omega arith))
         (omega arith)) (cases_lt m.limit (m.top + 4))

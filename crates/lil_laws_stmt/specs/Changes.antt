@@ -49,7 +49,7 @@ some_change down k (Behind o) = omega arith
 
 module _ (ctx : Setting) where
   open ctx use {library, table, home as h}
-  open frame_of ctx use {own, number}
+  open frame_of ctx use {own, piece, number}
   open laid_out ctx use {layout as l}
 
   module _ (s : Source) (k : List Item) (m : State) (c : ℕ) (a : Around) (shared : Shared ctx s m) where
@@ -78,7 +78,7 @@ module _ (ctx : Setting) where
         kept_twice ctx s items m shared (readied b) place (Word to) once here (readied_twice ctx b) r.start r.kept (c + 1) c r.again
         (operand_exact ctx s k (going m r.kept (doubled (readied b) once)) c a shared items e (ChangeAt down place to) refl (omega arith) r.middle r.value.value
         (omega (arith, r.value.shallow, twice_words ctx (readied b) place (Word to) once here))
-        (instrs_within own.code (change_code down to (readied b)) r.middle amid.end (some_change down to (readied b)) r.by)
+        (instrs_within piece (change_code down to (readied b)) r.middle amid.end (some_change down to (readied b)) r.by)
         (record {
           part = record {
             of = d;
@@ -120,14 +120,14 @@ module _ (ctx : Setting) where
       Now = record s { items = items; phase = Going }
 
       -- the store, the test before it, the operation before that, and what brings the other number
-      stores : Parted own.code (under_code access ++ whole_code (change_operator down) t ++ test_code to (OfWhole t)) (store_code access ∷ []) m.place row.part.amid.end
-      stores = split own.code (under_code access ++ whole_code (change_operator down) t ++ test_code to (OfWhole t)) (store_code access ∷ []) m.place row.part.amid.end (rw row.part.amid.at row.part.amid.here.by)
+      stores : Parted piece (under_code access ++ whole_code (change_operator down) t ++ test_code to (OfWhole t)) (store_code access ∷ []) m.place row.part.amid.end
+      stores = split piece (under_code access ++ whole_code (change_operator down) t ++ test_code to (OfWhole t)) (store_code access ∷ []) m.place row.part.amid.end (rw row.part.amid.at row.part.amid.here.by)
 
-      tests : Parted own.code (under_code access ++ whole_code (change_operator down) t) (test_code to (OfWhole t)) m.place stores.0
-      tests = split own.code (under_code access ++ whole_code (change_operator down) t) (test_code to (OfWhole t)) m.place stores.0 stores.1
+      tests : Parted piece (under_code access ++ whole_code (change_operator down) t) (test_code to (OfWhole t)) m.place stores.0
+      tests = split piece (under_code access ++ whole_code (change_operator down) t) (test_code to (OfWhole t)) m.place stores.0 stores.1
 
-      operation : Parted own.code (under_code access) (whole_code (change_operator down) t) m.place tests.0
-      operation = split own.code (under_code access) (whole_code (change_operator down) t) m.place tests.0 tests.1
+      operation : Parted piece (under_code access) (whole_code (change_operator down) t) m.place tests.0
+      operation = split piece (under_code access) (whole_code (change_operator down) t) m.place tests.0 tests.1
 
       -- both numbers stand on the expression stack
       abbrev both : State
@@ -160,9 +160,12 @@ module _ (ctx : Setting) where
       stack_is : m.stack ≡ scalar_word v ∷ doubled access once
       stack_is = is ∙ ap (λ (x : List ℕ). word_for h v ∷ x) row.part.twice ∙ ap (λ (w : ℕ). w ∷ doubled access once) (plain_word h kind v (ap is_plain same) fit)
 
+      computes : InstrsAt piece (change_instr down t ∷ []) operation.0 tests.0
+      computes = subst (λ (is : List Instr). InstrsAt piece is operation.0 tests.0) (change_is down t) operation.2
+
       operates : mstep both ≡ result_row both tests.0 once result
       operates =
-          let code = subst (λ (is : List Instr). InstrsAt own.code is operation.0 tests.0) (change_is down t) operation.2 in
+          let code = computes in
           at_step ctx both shared.program (change_instr down t) code.0 code.1
           ∙ change_act down t code.0 own both
           ∙ ap (λ (z : ℤ). result_row both code.0 once (changed down t z (number_of t (scalar_word v)))) (reads_ordinal (base_of to) old row.part.amid.here.target.scalar.base old_fits)
@@ -182,7 +185,7 @@ module _ (ctx : Setting) where
       number_goes : (z : ℤ) → result ≡ Ok z → Goes ctx s items (done z) (c + 2)
       number_goes z e =
           let fits : in_type t z ≡ true = changed_fits down t (ordinal_of old) (whole_of v) z e in
-          let store = subst (λ (q : ℕ). IsAt own.code stores.0 (store_code access) q) stores.2.2 stores.2.1 in
+          let store = subst (λ (q : ℕ). IsAt piece stores.0 (store_code access) q) stores.2.2 stores.2.1 in
           number_tested ctx s items m shared tests.0 (word_of z ∷ once) to (OfWhole t) (Number z) refl fits once refl stores.0 (c + 2) (c + 1) tests.2 close
           (λ none. ap store_result e ∙ ap store_value (value_none to z none))
           (λ one.
@@ -195,7 +198,7 @@ module _ (ctx : Setting) where
       operation_goes (Ok z) e =
           goes_after ctx s items both (done z) (c + 3) (c + 2) (advances both s.world _ (operates ∙ ap (result_row both tests.0 once) e)) (number_goes z e) (omega arith)
       operation_goes (Err f) e =
-          trap_goes ctx s items m shared both.place both.stack (arith_trap f) (c + 3) close (ap store_result e) (operates ∙ ap (result_row both tests.0 once) e) (omega arith)
+          trap_goes ctx s items m shared both.place both.stack (arith_trap f) (c + 3) (change_instr down t) computes.0 computes.1 close (ap store_result e) (operates ∙ ap (result_row both tests.0 once) e) (omega arith)
 
       pub change_at_goes : Goes ctx s (Value (Scalars v) ∷ Fill (ChangeAt down place to) ∷ k) m (c + 32)
       change_at_goes =

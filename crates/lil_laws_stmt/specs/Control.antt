@@ -7,7 +7,7 @@ use Rattle.lil_asm.specs.declared.instr.Instr.{Instr, TheVariants.{Jmp, Jpf}}
 use Rattle.lil_mcode.specs.{declared.machine.Event.TheVariants.Went, Table.{State, going, on_one, false_row}}
 use Rattle.lil_table.specs.Rows.{IsAt, StatementAt, BodyAt, ExpressionAt}
 use Rattle.lil_match.specs.{Goes.{Shared, Goes, Lands}, Running.{running, advanced}, Parts.yes, Homes.word_for, Waits.{stutter, body_stutter, Setting, frame_of, laid_out, Quiet, ValueOf, Around, Reach, Rows, Ahead, LoopingWaits, Waiting}, Orders.{instr_within, expression_within, statement_within, body_within}}
-use Rattle.lil_match.specs.Steps.{advances, at_step, at_once, rows_jump, rows_ahead, lands_on, goes_none, goes_one_within, jumps_to, operand_goes}
+use Rattle.lil_match.specs.Steps.{inside_own, advances, at_step, at_once, rows_jump, rows_ahead, lands_on, goes_none, goes_one_within, jumps_to, operand_goes}
 
 -- a value of the kind of truth values is one
 is_truth : (v : Scalar) → within OfTruth v ≡ true → v ≡ Truth (truth_of v)
@@ -20,11 +20,11 @@ doing_stutter (Then s ss) k = omega (arith, doing_stutter ss k)
 
 module _ (ctx : Setting) where
   open ctx use {library, table, home as h}
-  open frame_of ctx use {own, number}
+  open frame_of ctx use {own, piece, number}
   open laid_out ctx use {layout as l}
 
   -- statements stand before what is left
-  pub body_rows : (ss : Statements) (k : List Item) (p q c : ℕ) (a : Around) → BodyAt l own.code (a.taken) a.exit ss p q → q < length own.code
+  pub body_rows : (ss : Statements) (k : List Item) (p q c : ℕ) (a : Around) → BodyAt l piece (a.taken) a.exit ss p q → q < length piece
       → Rows ctx k Quiet q [] c a → Rows ctx (doing ss k) Quiet p [] c a
   body_rows Empty k p q c a here inside rest = subst (λ (x : ℕ). Rows ctx k Quiet x [] c a) (sym here) rest
   body_rows (Then s ss) k p q c a here inside rest =
@@ -34,7 +34,7 @@ module _ (ctx : Setting) where
           empty = refl;
           end = here.middle;
           here = here.here;
-          within = body_within l own.code (a.taken) a.exit ss here.middle q here.then inside;
+          within = body_within l piece (a.taken) a.exit ss here.middle q here.then inside;
         };
         then = body_rows ss k here.middle q c a here.then inside rest;
       })
@@ -57,7 +57,7 @@ module _ (ctx : Setting) where
     Claim i = Goes ctx s i m (c + 32)
 
     -- a jump where a truth value is FALSE
-    tests : (b : Bool) (to q : ℕ) → IsAt own.code m.place (Jpf to) q → to < length own.code → m.stack ≡ truth_number b ∷ []
+    tests : (b : Bool) (to q : ℕ) → IsAt piece m.place (Jpf to) q → to < length piece → m.stack ≡ truth_number b ∷ []
         → advanced (running m s.world) ≡ running (going m (cond b q to) []) s.world
     tests b to q at inside is =
         advances m s.world (Went, going m (cond b q to) [])
@@ -65,11 +65,11 @@ module _ (ctx : Setting) where
       where
         by : (b : Bool) → false_row own to q m (truth_number b) [] ≡ (Went, going m (cond b q to) [])
         by true = refl
-        by false = yes _ _ _ (lt-ltb to (length own.code) inside)
+        by false = yes _ _ _ (lt-ltb to (length own.code) (inside_own ctx shared.program to inside))
 
     -- an instruction stands where the machine is
-    moved : {q to : ℕ} {i : Instr} → m.place ≡ q → IsAt own.code q i to → IsAt own.code m.place i to
-    moved {q} {to} {i} at here = subst (λ (x : ℕ). IsAt own.code x i to) (sym at) here
+    moved : {q to : ℕ} {i : Instr} → m.place ≡ q → IsAt piece q i to → IsAt piece m.place i to
+    moved {q} {to} {i} at here = subst (λ (x : ℕ). IsAt piece x i to) (sym at) here
 
     -- what goes for each truth value goes for a value of their kind
     by_truth : (o : Hole) (v : Scalar) (kind : Kind) → within kind v ≡ true → (below : List ℕ) → m.stack ≡ word_for h v ∷ below → kind ≡ OfTruth → below ≡ []
@@ -82,21 +82,21 @@ module _ (ctx : Setting) where
     pub if_goes : (x : Expression) (first second : Statements) → Waiting ctx (Perform (Do (If x first second))) Rest Quiet m.place m.stack c a → Claim (Perform (Do (If x first second)) ∷ k)
     if_goes x first second row =
         operand_goes ctx s k m c a shared (Perform (Do (If x first second)) ∷ k) x (Choose first second) refl (omega arith) row.part.here.middle row.part.here.condition.value (omega (arith, row.part.here.condition.shallow, ap length row.part.empty))
-        (instr_within own.code row.part.here.middle (Jpf row.part.here.other) row.part.here.start row.part.here.jump)
+        (instr_within piece row.part.here.middle (Jpf row.part.here.other) row.part.here.start row.part.here.jump)
         (record { part = record { of = x; same = refl; from = m.place; did = row.part; at = refl }; then = row.then })
 
     pub choose_goes : (first second : Statements) (v : Scalar) (kind : Kind) → within kind v ≡ true → (below : List ℕ) → m.stack ≡ word_for h v ∷ below
         → Waiting ctx (Fill (Choose first second)) Rest (ValueOf kind) m.place below c a → Claim (Value (Scalars v) ∷ Fill (Choose first second) ∷ k)
     choose_goes first second v kind fits below is row = by_truth (Choose first second) v kind fits below is (row.part.same ∙ row.part.did.here.condition.typed) row.part.did.empty by
       where
-        other_within : row.part.did.here.other < length own.code
-        other_within = body_within l own.code (a.taken) a.exit second row.part.did.here.other row.part.did.end row.part.did.here.otherwise row.part.did.within
+        other_within : row.part.did.here.other < length piece
+        other_within = body_within l piece (a.taken) a.exit second row.part.did.here.other row.part.did.end row.part.did.here.otherwise row.part.did.within
 
         by : (b : Bool) → m.stack ≡ truth_number b ∷ [] → Claim (Value (Scalars (Truth b)) ∷ Fill (Choose first second) ∷ k)
         by true here =
             goes_to s m shared (Value (Scalars (Truth true)) ∷ Fill (Choose first second) ∷ k) (doing first k) row.part.did.here.start (c + 32) (suc c) a refl
             (tests true row.part.did.here.other row.part.did.here.start (moved row.part.at row.part.did.here.jump) other_within here)
-            (body_rows first k row.part.did.here.start row.part.did.here.end (suc c) a row.part.did.here.chosen (instr_within own.code row.part.did.here.end (Jmp row.part.did.end) row.part.did.here.other row.part.did.here.skip)
+            (body_rows first k row.part.did.here.start row.part.did.here.end (suc c) a row.part.did.here.chosen (instr_within piece row.part.did.here.end (Jmp row.part.did.end) row.part.did.here.other row.part.did.here.skip)
             (rows_jump ctx k Quiet row.part.did.here.end row.part.did.end row.part.did.here.other [] c a row.part.did.here.skip row.part.did.within row.then))
             (omega arith)
         by false here =
@@ -108,7 +108,7 @@ module _ (ctx : Setting) where
     pub while_goes : (x : Expression) (body : Statements) → Waiting ctx (Perform (Do (While x body))) Rest Quiet m.place m.stack c a → Claim (Perform (Do (While x body)) ∷ k)
     while_goes x body row =
         operand_goes ctx s k m c a shared (Perform (Do (While x body)) ∷ k) x (Turn x body) refl (omega arith) row.part.here.middle row.part.here.condition.value (omega (arith, row.part.here.condition.shallow, ap length row.part.empty))
-        (instr_within own.code row.part.here.middle (Jpf row.part.end) row.part.here.start row.part.here.jump)
+        (instr_within piece row.part.here.middle (Jpf row.part.end) row.part.here.start row.part.here.jump)
         (record { part = record { same = row.part.here.condition.typed; from = m.place; did = row.part; at = refl }; then = row.then })
 
     pub turn_goes : (x : Expression) (body : Statements) (v : Scalar) (kind : Kind) → within kind v ≡ true → (below : List ℕ) → m.stack ≡ word_for h v ∷ below
@@ -119,9 +119,9 @@ module _ (ctx : Setting) where
         by true here =
             goes_to s m shared (Value (Scalars (Truth true)) ∷ Fill (Turn x body) ∷ k) (doing body (Perform (Do (While x body)) ∷ k)) row.part.did.here.start (c + 32) (suc c) a refl
             (tests true row.part.did.end row.part.did.here.start (moved row.part.at row.part.did.here.jump) row.part.did.within here)
-            (body_rows body (Perform (Do (While x body)) ∷ k) row.part.did.here.start row.part.did.here.end (suc c) a row.part.did.here.here (instr_within own.code row.part.did.here.end (Jmp row.part.from) row.part.did.end row.part.did.here.back)
+            (body_rows body (Perform (Do (While x body)) ∷ k) row.part.did.here.start row.part.did.here.end (suc c) a row.part.did.here.here (instr_within piece row.part.did.here.end (Jmp row.part.from) row.part.did.end row.part.did.here.back)
             (rows_jump ctx (Perform (Do (While x body)) ∷ k) Quiet row.part.did.here.end row.part.from row.part.did.end [] c a row.part.did.here.back
-            (statement_within l own.code (a.taken) a.exit (While x body) row.part.from row.part.did.end row.part.did.here row.part.did.within)
+            (statement_within l piece (a.taken) a.exit (While x body) row.part.from row.part.did.end row.part.did.here row.part.did.within)
             (at_once ctx _ Quiet row.part.from [] c a
             (record { part = record { empty = refl; end = row.part.did.end; here = row.part.did.here; within = row.part.did.within }; then = row.then }))))
             (omega arith)
@@ -131,7 +131,7 @@ module _ (ctx : Setting) where
             row.then (omega arith)
 
     -- a body that begins where the machine stands
-    body_here : (ss : Statements) (i : List Item) (q : ℕ) (b : Around) → m.stack ≡ [] → BodyAt l own.code (b.taken) b.exit ss m.place q → q < length own.code
+    body_here : (ss : Statements) (i : List Item) (q : ℕ) (b : Around) → m.stack ≡ [] → BodyAt l piece (b.taken) b.exit ss m.place q → q < length piece
         → Rows ctx i Quiet q [] c b → Ahead ctx (doing ss i) Quiet m.place m.stack c b
     body_here ss i q b empty here inside rows =
         rows_ahead ctx (doing ss i) m.place m.stack c b
@@ -141,23 +141,23 @@ module _ (ctx : Setting) where
     repeat_goes body x row =
         goes_none ctx s (Perform (Do (Repeat body x)) ∷ k) m 32 c
         (lands_on ctx s m shared (doing body (Perform (Until body x) ∷ k)) m.place m.stack c a
-        (body_here body (Perform (Until body x) ∷ k) row.part.here.end a row.part.empty row.part.here.here (expression_within l own.code x row.part.here.end row.part.here.middle row.part.here.condition.value)
+        (body_here body (Perform (Until body x) ∷ k) row.part.here.end a row.part.empty row.part.here.here (expression_within l piece x row.part.here.end row.part.here.middle row.part.here.condition.value)
         (at_once ctx _ Quiet row.part.here.end [] c a
         (record { part = record { empty = refl; amid = record { from = m.place; end = row.part.end; here = row.part.here; within = row.part.within; at = refl } }; then = row.then }))))
         (omega (arith, doing_stutter body (Perform (Until body x) ∷ k)))
 
     pub until_goes : (body : Statements) (x : Expression) → Waiting ctx (Perform (Until body x)) Rest Quiet m.place m.stack c a → Claim (Perform (Until body x) ∷ k)
     until_goes body x row =
-        operand_goes ctx s k m c a shared (Perform (Until body x) ∷ k) x (Again body x) refl (omega arith) row.part.amid.here.middle (subst (λ (p : ℕ). ExpressionAt l own.code x p row.part.amid.here.middle) (sym row.part.amid.at) row.part.amid.here.condition.value) (omega (arith, row.part.amid.here.condition.shallow, ap length row.part.empty))
-        (instr_within own.code row.part.amid.here.middle (Jpf row.part.amid.from) row.part.amid.end row.part.amid.here.back)
+        operand_goes ctx s k m c a shared (Perform (Until body x) ∷ k) x (Again body x) refl (omega arith) row.part.amid.here.middle (subst (λ (p : ℕ). ExpressionAt l piece x p row.part.amid.here.middle) (sym row.part.amid.at) row.part.amid.here.condition.value) (omega (arith, row.part.amid.here.condition.shallow, ap length row.part.empty))
+        (instr_within piece row.part.amid.here.middle (Jpf row.part.amid.from) row.part.amid.end row.part.amid.here.back)
         (record { part = record { same = row.part.amid.here.condition.typed; from = row.part.amid.from; did = record { empty = row.part.empty; end = row.part.amid.end; here = row.part.amid.here; within = row.part.amid.within }; at = refl }; then = row.then })
 
     pub again_goes : (body : Statements) (x : Expression) (v : Scalar) (kind : Kind) → within kind v ≡ true → (below : List ℕ) → m.stack ≡ word_for h v ∷ below
         → Waiting ctx (Fill (Again body x)) Rest (ValueOf kind) m.place below c a → Claim (Value (Scalars v) ∷ Fill (Again body x) ∷ k)
     again_goes body x v kind fits below is row = by_truth (Again body x) v kind fits below is row.part.same row.part.did.empty by
       where
-        top_within : row.part.from < length own.code
-        top_within = statement_within l own.code (a.taken) a.exit (Repeat body x) row.part.from row.part.did.end row.part.did.here row.part.did.within
+        top_within : row.part.from < length piece
+        top_within = statement_within l piece (a.taken) a.exit (Repeat body x) row.part.from row.part.did.end row.part.did.here row.part.did.within
 
         by : (b : Bool) → m.stack ≡ truth_number b ∷ [] → Claim (Value (Scalars (Truth b)) ∷ Fill (Again body x) ∷ k)
         by true here =
@@ -176,7 +176,7 @@ module _ (ctx : Setting) where
     inside_loop end outer = record { exit = Some end; taken = outer.taken }
 
     -- the end of a LOOP's body, and what is behind the LOOP
-    looping_row : (body : Statements) (top end : ℕ) (outer : Around) → (again : StatementAt l own.code (outer.taken) outer.exit (Loop body) top end) → end < length own.code
+    looping_row : (body : Statements) (top end : ℕ) (outer : Around) → (again : StatementAt l piece (outer.taken) outer.exit (Loop body) top end) → end < length piece
         → Rest Quiet end [] c outer → Rows ctx (Perform (Looping body) ∷ k) Quiet again.end [] c (inside_loop end outer)
     looping_row body top end outer again inside then' =
         at_once ctx _ Quiet again.end [] c (inside_loop end outer)
@@ -198,7 +198,7 @@ module _ (ctx : Setting) where
         goes_none ctx s (Perform (Do (Loop body)) ∷ k) m 32 c
         (lands_on ctx s m shared (doing body (Perform (Looping body) ∷ k)) m.place m.stack c (inside_loop row.part.end a)
         (body_here body (Perform (Looping body) ∷ k) row.part.here.end (inside_loop row.part.end a) row.part.empty row.part.here.here
-        (instr_within own.code row.part.here.end (Jmp m.place) row.part.end row.part.here.back)
+        (instr_within piece row.part.here.end (Jmp m.place) row.part.end row.part.here.back)
         (looping_row body m.place row.part.end a row.part.here row.part.within row.then)))
         (omega (arith, doing_stutter body (Perform (Looping body) ∷ k)))
 
@@ -206,9 +206,9 @@ module _ (ctx : Setting) where
     looping_goes body row =
         goes_to s m shared (Perform (Looping body) ∷ k) (doing body (Perform (Looping body) ∷ k)) row.top (c + 32) c (inside_loop row.end row.outer) refl
         (jumps_to ctx m s.world shared.program row.top row.end row.back
-        (statement_within l own.code (row.outer.taken) row.outer.exit (Loop body) row.top row.end row.again row.within)
+        (statement_within l piece (row.outer.taken) row.outer.exit (Loop body) row.top row.end row.again row.within)
         ∙ ap (λ (x : List ℕ). running (going m row.top x) s.world) row.empty)
         (body_rows body (Perform (Looping body) ∷ k) row.top row.again.end c (inside_loop row.end row.outer) row.again.here
-        (instr_within own.code row.again.end (Jmp row.top) row.end row.again.back)
+        (instr_within piece row.again.end (Jmp row.top) row.end row.again.back)
         (looping_row body row.top row.end row.outer row.again row.within row.then))
         (omega arith)

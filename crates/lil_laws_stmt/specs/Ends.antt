@@ -20,12 +20,12 @@ module _ (ctx : Setting) where
   pub halt_goes : (s : Source) (k : List Item) (m : State) (c : ℕ) (a : Around) → Shared ctx s m → Waiting ctx (Perform (Do Halt)) (Rows ctx k) Quiet m.place m.stack c a
       → Goes ctx s (Perform (Do Halt) ∷ k) m (c + 32)
   halt_goes s k m c a shared row =
-      trap_goes ctx s (Perform (Do Halt) ∷ k) m shared m.place m.stack trap.Halted (c + 32) (closed ctx k _ _ _ _ _ row.then) refl
+      trap_goes ctx s (Perform (Do Halt) ∷ k) m shared m.place m.stack trap.Halted (c + 32) (Trp 9) row.part.end row.part.here (closed ctx k _ _ _ _ _ row.then) refl
       (at_step ctx m shared.program (Trp 9) row.part.end row.part.here)
       (omega arith)
 
   -- the running frame ends at an RTN, by what is behind its end
-  leave_goes : (s : Source) (k : List Item) (m : State) (c : ℕ) → Shared ctx s m → (n end : ℕ) → IsAt ctx.stack.frame.own.code m.place Rtn end → m.stack ≡ [] → Behind ctx k (RowsOf k) c ctx.stack.callers ctx.stack.bodies
+  leave_goes : (s : Source) (k : List Item) (m : State) (c : ℕ) → Shared ctx s m → (n end : ℕ) → IsAt ctx.stack.frame.piece m.place Rtn end → m.stack ≡ [] → Behind ctx k (RowsOf k) c ctx.stack.callers ctx.stack.bodies
       → Goes ctx s (Perform (End n) ∷ k) m (c + 32)
   leave_goes s k m c shared n end leave empty behind = by ctx.stack.callers ctx.stack.bodies shared behind
     where

@@ -18,7 +18,7 @@ pub record Leaves (ctx : Setting) (k : List Item) (to c : ℕ) : Type 0 where
   pub outer : Around
   pub later : ℕ
   pub less : later ≤ c
-  pub inside : to < length ctx.stack.frame.own.code
+  pub inside : to < length ctx.stack.frame.piece
   pub there : Rows before k Quiet to [] later outer
 
 -- jumps before
@@ -33,12 +33,12 @@ out_of_with ctx mid t n k to c is r = record {
   outer = r.outer;
   later = r.later;
   less = r.less;
-  inside = omega (arith, r.inside, ap (λ (x : Setting). length x.stack.frame.own.code) is);
+  inside = omega (arith, r.inside, ap (λ (x : Setting). length x.stack.frame.piece) is);
   there = r.there;
 }
 
 -- the LOOP around
-out : (ctx : Setting) (k : List Item) (to c end : ℕ) (outer a : Around) → a ≡ record { exit = Some end; taken = outer.taken } → a.exit ≡ Some to → end < length ctx.stack.frame.own.code
+out : (ctx : Setting) (k : List Item) (to c end : ℕ) (outer a : Around) → a ≡ record { exit = Some end; taken = outer.taken } → a.exit ≡ Some to → end < length ctx.stack.frame.piece
     → Rows ctx k Quiet end [] c outer → Leaves ctx k to c
 out ctx k to c end outer a is known inside rows =
     let same : end ≡ to = some_same end to (sym (ap (λ (o : Around). o.exit) is) ∙ known) in
@@ -81,7 +81,7 @@ leaves (i ∷ k) ctx t p stack c a r to known =
 
 module _ (ctx : Setting) where
   open ctx use {library, table, home as h}
-  open frame_of ctx use {own, number}
+  open frame_of ctx use {own, piece, number}
 
   pub exit_goes : (s : Source) (k : List Item) (m : State) (c : ℕ) (a : Around) → Shared ctx s m → Waiting ctx (Perform (Do Exit)) (Rows ctx k) Quiet m.place m.stack c a → Goes ctx s (Perform (Do Exit) ∷ k) m (c + 32)
   exit_goes s k m c a shared row =

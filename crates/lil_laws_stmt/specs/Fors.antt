@@ -12,7 +12,7 @@ use Rattle.lil_mcode.specs.{declared.machine.Event.{Event, TheVariants.{Went, Tr
 use Rattle.lil_table.specs.Rows.{InData, Layout, IsAt, InstrsAt, AlignAt, BodyAt, RoundRow, range_code, loop_place, loop_sign}
 use Rattle.lil_match.specs.{Goes.{Shared, Touches, Goes, Lands}, Running.{Run, running, react, advanced}, Parts.{yes, no}, Homes.{word_for, base_plain, takes_plain, plain_word, plain_refers, Home, Mem, scalar_owned, mem_stored, replaced, shadowed}, Arithmetic.word_is}
 use Rattle.lil_match.specs.{Ranges.{has, value_is, value_none, number_is, value_fits, fits_has, has_type, ordinal_base, ordinal_plain}, Tests.{covered, test_act}, Waits.{Setting, frame_of, laid_out, Quiet, ValueOf, Around, Reach, TurnsFit, Rows, at_home, LoopWords, NextWaits, HasPlace, Waiting}, Orders.{instr_within, expression_within}}
-use Rattle.lil_match.specs.{Steps.{closed, variable_here, both_trap, advances, pushes, at_step, at_once, rows_ahead, lands_on, goes_none, shared_with, untouched, touched, goes_one, goes_after_in, goes_after, goes_more, operand_goes}, Kept.{shared_shadowed, touches_shadowed, rows_shadowed}}
+use Rattle.lil_match.specs.{Steps.{inside_own, closed, variable_here, both_trap, advances, pushes, at_step, at_once, rows_ahead, lands_on, goes_none, shared_with, untouched, touched, goes_one, goes_after_in, goes_after, goes_more, operand_goes}, Kept.{shared_shadowed, touches_shadowed, rows_shadowed}}
 use Rattle.lil_match.specs.Kept as kept
 use Rattle.lil_laws_stmt.specs.{Control.body_rows, ForWords.{word_small, next_word, step_some, turns_read, turns_few}}
 
@@ -36,7 +36,7 @@ align_within l code false false p start q e inside = instr_within code p Swp e.l
 
 module _ (ctx : Setting) where
   open ctx use {library, table, home as h}
-  open frame_of ctx use {own, number}
+  open frame_of ctx use {own, piece, number}
   open laid_out ctx use {layout as l}
 
   -- a word of the running frame
@@ -57,7 +57,7 @@ module _ (ctx : Setting) where
     module _ (x : ℕ) (kind : Kind) (z step : ℤ) (left : ℕ) (body : Statements)
         (words : LoopWords ctx a.taken left (word_of step)) (now : words.now ≡ word_of z) (empty : m.stack ≡ [])
         (fit : TurnsFit (base_of kind) z step (suc left)) (small : left < 65536) (end : ℕ)
-        (round : RoundRow l own.code (a.taken) x kind step (BodyAt l own.code (3 + a.taken) a.exit body) m.place end) (ends : end < length own.code)
+        (round : RoundRow l piece (a.taken) x kind step (BodyAt l piece (3 + a.taken) a.exit body) m.place end) (ends : end < length piece)
         (then : Rest Quiet end [] c a) where
       abbrev base : Kind
       base = base_of kind
@@ -98,7 +98,7 @@ module _ (ctx : Setting) where
           (mem_stored h s.cells m.store place kind v shared.mem variable.living fits (plain_refers h kind v plain)) in
           let rows : Rows ctx after Quiet round.start [] c inner =
           body_rows ctx body (Turning x kind (z +ℤ step) step left body) round.start round.end c inner round.here
-          (instr_within own.code round.end (Frn (loop_place (a.taken)) m.place) end round.next)
+          (instr_within piece round.end (Frn (loop_place (a.taken)) m.place) end round.next)
           (at_once ctx _ Quiet round.end [] c inner
           (inr (record {
             quiet = refl;
@@ -137,14 +137,14 @@ module _ (ctx : Setting) where
       abbrev outcome : Bool → Event × State
       outcome b = cond b (Went, holding round.tested) (Trap trap.Range, holding round.loaded)
 
-      tests : IsAt own.code round.loaded test round.tested → mstep (holding round.loaded) ≡ outcome (has kind z)
+      tests : IsAt piece round.loaded test round.tested → mstep (holding round.loaded) ≡ outcome (has kind z)
       tests here =
           at_step ctx (holding round.loaded) shared.program test round.tested here
           ∙ test_act kind base (scalar_of base z) own (holding round.loaded) m.stack round.tested (ordinal_base base round.known.base) (value_fits base z fit.0)
           (ap (λ (w : ℕ). w ∷ m.stack) (sym (number_word base z fit.0)))
           ∙ ap (λ (y : ℤ). outcome (has kind y)) (number_is base z fit.0)
 
-      tested : (b : Bool) → has kind z ≡ b → IsAt own.code round.loaded test round.tested → Goes ctx s items (holding round.loaded) (c + 19)
+      tested : (b : Bool) → has kind z ≡ b → IsAt piece round.loaded test round.tested → Goes ctx s items (holding round.loaded) (c + 19)
       tested true there here =
           goes_after ctx s items (holding round.loaded) (holding round.tested) (c + 19) (c + 18)
           (advances (holding round.loaded) s.world _ (tests here ∙ ap outcome there))
@@ -155,15 +155,15 @@ module _ (ctx : Setting) where
           goes_one ctx s items (holding round.loaded) 18 c run
           (advances (holding round.loaded) s.world _ (tests here ∙ ap outcome none))
           (subst (λ (o : Option Scalar). Lands ctx (turned_there o).phase (turned_there o) run c) (sym (value_none kind z none))
-          (both_trap ctx s items (holding round.loaded) trap.Range shared (closed ctx k Quiet end [] c a then)))
+          (both_trap ctx s items (holding round.loaded) trap.Range test round.tested shared here (closed ctx k Quiet end [] c a then)))
 
       -- where each number of the base is the kind's there is no test
-      by_test : (b : Bool) → covers kind base ≡ b → InstrsAt own.code (cond b [] (test ∷ [])) round.loaded round.tested → Goes ctx s items (holding round.loaded) (c + 19)
+      by_test : (b : Bool) → covers kind base ≡ b → InstrsAt piece (cond b [] (test ∷ [])) round.loaded round.tested → Goes ctx s items (holding round.loaded) (c + 19)
       by_test true covering here =
           goes_more ctx s items (holding round.loaded) (c + 18) (c + 19)
           (subst (λ (q : ℕ). Goes ctx s items (holding q) (c + 18)) (sym here) (stores (covered kind base z covering fit.0)))
           (omega arith)
-      by_test false covering here = tested (has kind z) refl (subst (IsAt own.code round.loaded test) here.2 here.1)
+      by_test false covering here = tested (has kind z) refl (subst (IsAt piece round.loaded test) here.2 here.1)
 
       -- a turn: its number, the test and the store of its value, and then the body
       turn_goes : Goes ctx s items m (c + 20)
@@ -212,7 +212,7 @@ turned_words f at n p q = (grind (arith, nat_tests), grind (arith, nat_tests), g
 
 module _ (ctx : Setting) where
   open ctx use {library, table, home as h}
-  open frame_of ctx use {own, number}
+  open frame_of ctx use {own, piece, number}
   open laid_out ctx use {layout as l}
 
   module _ (s : Source) (k : List Item) (m : State) (c : ℕ) (a : Around) (shared : Shared ctx s m) where
@@ -223,7 +223,7 @@ module _ (ctx : Setting) where
         → Goes ctx s (Perform (Do (For x kind first limit step body)) ∷ k) m (c + 32)
     for_goes x kind first limit step body row =
         operand_goes ctx s k m c a shared (Perform (Do (For x kind first limit step body)) ∷ k) first (StartOf x kind limit step body) refl (omega arith) row.part.here.middle row.part.here.first.value (omega (arith, row.part.here.first.shallow, ap length row.part.empty))
-        (expression_within l own.code limit row.part.here.middle row.part.here.last row.part.here.limit.value)
+        (expression_within l piece limit row.part.here.middle row.part.here.last row.part.here.limit.value)
         (record { part = record { of = first; same = refl; from = m.place; did = row.part; at = refl }; then = row.then })
 
     pub start_goes : (x : ℕ) (to : Kind) (limit : Expression) (step : ℤ) (body : Statements) (v : Scalar) (kind : Kind) → within kind v ≡ true → (below : List ℕ) → m.stack ≡ word_for h v ∷ below
@@ -233,8 +233,8 @@ module _ (ctx : Setting) where
         let here = did.here in
         let stack : m.stack ≡ word_for h v ∷ [] = is ∙ ap (λ (st : List ℕ). word_for h v ∷ st) did.empty in
         operand_goes ctx s k m c a shared (Value (Scalars v) ∷ Fill (StartOf x to limit step body) ∷ k) limit (LimitOf x to v step body) refl (omega arith) here.last (rw row.part.at here.limit.value) (omega (arith, here.limit.shallow, ap length stack))
-        (align_within l own.code (covers (base_of to) (kind_of row.part.of)) (outside_turns (compared_as (base_of to)) step) here.last here.turns.aligned did.end here.turns.align
-        (instr_within own.code here.turns.aligned (Liw (word_of step)) here.turns.stepped here.turns.load))
+        (align_within l piece (covers (base_of to) (kind_of row.part.of)) (outside_turns (compared_as (base_of to)) step) here.last here.turns.aligned did.end here.turns.align
+        (instr_within piece here.turns.aligned (Liw (word_of step)) here.turns.stepped here.turns.load))
         (record {
           part = record {
             first = row.part.of;
@@ -284,10 +284,10 @@ module _ (ctx : Setting) where
       pub stepped : ℕ
       pub turn : ℕ
       pub end : ℕ
-      pub load : IsAt own.code m.place (Liw (word_of step)) stepped
-      pub enter : IsAt own.code stepped (Fri (loop_place a.taken) (loop_sign (compared_as (base_of kind))) end) turn
-      pub round : RoundRow l own.code (a.taken) x kind step (BodyAt l own.code (3 + a.taken) a.exit body) turn end
-      pub within : end < length own.code
+      pub load : IsAt piece m.place (Liw (word_of step)) stepped
+      pub enter : IsAt piece stepped (Fri (loop_place a.taken) (loop_sign (compared_as (base_of kind))) end) turn
+      pub round : RoundRow l piece (a.taken) x kind step (BodyAt l piece (3 + a.taken) a.exit body) turn end
+      pub within : end < length piece
       pub then : Left Quiet end [] c a
 
     pub bounded_goes : (x : ℕ) (kind : Kind) (first step : ℤ) (left : ℕ) (body : Statements) → Bounded x kind first step left body
@@ -333,7 +333,7 @@ module _ (ctx : Setting) where
         by_left zero e =
             goes_after ctx s (Perform (Turns x' kind first step zero body) ∷ k) m stepped (c + 24) (c + 23) pushed
             (goes_one ctx s (Perform (Turns x' kind first step zero body) ∷ k) stepped 22 c (running (going m row.end []) s.world)
-            (advances stepped s.world _ (enters zero e ∙ yes _ _ _ (lt-ltb row.end (length own.code) row.within)))
+            (advances stepped s.world _ (enters zero e ∙ yes _ _ _ (lt-ltb row.end (length own.code) (inside_own ctx shared.program row.end row.within))))
             (lands_on ctx s m shared k row.end [] c a (rows_ahead ctx k row.end [] c a row.then)))
             (omega arith)
         by_left (suc u) e =
@@ -388,7 +388,7 @@ module _ (ctx : Setting) where
 
         again : (u : ℕ) → left ≡ u → mstep m ≡ turn_row own (m.frame + loop_place row.outer.taken) row.turn row.end m row.words.now u (word_of step)
         again u e =
-            at_step ctx m shared.program (Frn n row.turn) row.end (subst (λ (p : ℕ). IsAt own.code p (Frn n row.turn) row.end) (sym row.at) row.round.next)
+            at_step ctx m shared.program (Frn n row.turn) row.end (subst (λ (p : ℕ). IsAt piece p (Frn n row.turn) row.end) (sym row.at) row.round.next)
             ∙ yes _ _ _ (lt-ltb (at + 1) 65536 (omega (arith, deep)))
             ∙ ap (λ (w : ℕ). turn_row own at row.turn row.end m w (get_or m.store (at + 1) 0) (get_or m.store (at + 2) 0)) (own_read ctx s m shared n at refl (omega (arith, room)) ∙ row.words.now_is)
             ∙ ap (λ (w : ℕ). turn_row own at row.turn row.end m row.words.now w (get_or m.store (at + 2) 0)) (own_read ctx s m shared (n + 1) (at + 1) (omega arith) (omega (arith, room)) ∙ ap h.shadow (omega arith) ∙ row.words.left_is ∙ e)
@@ -422,7 +422,7 @@ module _ (ctx : Setting) where
             again (suc u) e
             ∙ no _ _ _ (ne_eqb (suc u) 0 (λ d. omega (arith, d)))
             ∙ yes _ _ _ (lt-ltb (at + 2) 65536 deep)
-            ∙ yes _ _ _ (lt-ltb row.turn (length own.code) (instr_within own.code row.turn (Llw n) row.round.loaded row.round.load))
+            ∙ yes _ _ _ (lt-ltb row.turn (length own.code) (inside_own ctx shared.program row.turn (instr_within piece row.turn (Llw n) row.round.loaded row.round.load)))
             ∙ ap (λ (st : List ℕ). let r : Event × State = (Went, record m { place = row.turn; store = st }) in r) same
             ))
             two.touch

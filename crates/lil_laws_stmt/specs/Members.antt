@@ -16,7 +16,7 @@ member_act true q own m = refl
 
 module _ (ctx : Setting) where
   open ctx use {library, home as h}
-  open frame_of ctx use {own}
+  open frame_of ctx use {own, piece}
   open laid_out ctx use {layout as l}
 
   module _ (s : Source) (k : List Item) (m : State) (c : ℕ) (a : Around) (shared : Shared ctx s m) where
@@ -38,11 +38,11 @@ module _ (ctx : Setting) where
         let r = amid.here in
         let items : List Item = Value (Places place) ∷ Fill (MemberBy out kind e) ∷ k in
         let at : State = going m r.start (address h place ∷ below) in
-        let value = expression_stands l own.code e r.start r.value.middle r.value.value.value in
-        let test = instrs_order own.code _ r.value.middle r.middle r.value.test value.1 in
+        let value = expression_stands l piece e r.start r.value.middle r.value.value.value in
+        let test = instrs_order piece _ r.value.middle r.middle r.value.test value.1 in
         addressed ctx s items m shared (access_of l d) place (shape_of l.scope d) m.stack below has (omega (arith, ap length row.part.empty)) m.place r.start (c + 32) c (rw amid.at r.address)
         (operand_exact ctx s k at c a shared items e (MemberAt out place kind) refl (omega arith) r.value.middle r.value.value.value (omega (arith, r.value.value.shallow, ap length row.part.empty))
-        (omega (arith, test.0, instr_within own.code r.middle _ amid.end r.by))
+        (omega (arith, test.0, instr_within piece r.middle _ amid.end r.by))
         (record {
           part = record {
             of = d;

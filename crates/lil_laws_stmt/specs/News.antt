@@ -34,7 +34,7 @@ unborn (o ∷ os) = unborn os
 
 module _ (ctx : Setting) where
   open ctx use {library, home as h, stack as st}
-  open frame_of ctx use {own}
+  open frame_of ctx use {own, piece}
   open laid_out ctx use {layout as l}
 
   module _ (s : Source) (k : List Item) (m : State) (c : ℕ) (a : Around) (shared : Shared ctx s m) where

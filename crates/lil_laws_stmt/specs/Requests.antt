@@ -61,7 +61,7 @@ character_word h v e = cc
 
 module _ (ctx : Setting) where
   open ctx use {library, table, home as h}
-  open frame_of ctx use {own, number}
+  open frame_of ctx use {own, piece, number}
   open laid_out ctx use {layout as l}
 
   -- one more datum above the others
@@ -83,7 +83,7 @@ module _ (ctx : Setting) where
       → LeftPart ctx.stack.frame r (map is_array (done ++ d ∷ [])) left more p
   left_done r done d left count more p e y = record {
     middle = y.middle;
-    given = subst (λ (n : ℕ). ArgumentsAt l own.code n left p y.middle) e y.given;
+    given = subst (λ (n : ℕ). ArgumentsAt l piece n left p y.middle) e y.given;
     forms = forms_done r done d left y.forms;
     serve = record { words = y.serve.words ∙ ap (λ (n : ℕ). n + arguments_words left) e; end = y.serve.end; by = y.serve.by; within = y.serve.within };
   }
@@ -200,7 +200,7 @@ module _ (ctx : Setting) where
             on = row.part.empty;
             rest = record {
               middle = row.part.here.middle;
-              given = subst (λ (n : ℕ). ArgumentsAt l own.code n given m.place row.part.here.middle) (sym none) row.part.here.arguments;
+              given = subst (λ (n : ℕ). ArgumentsAt l piece n given m.place row.part.here.middle) (sym none) row.part.here.arguments;
               forms = record { same = ap (map is_open) row.part.here.takes };
               serve = record { words = row.part.here.words ∙ (let e : arguments_words given ≡ length m.stack + arguments_words given = omega (arith, none) in e); end = row.part.end; by = row.part.here.by; within = row.part.within };
             };
@@ -217,7 +217,7 @@ module _ (ctx : Setting) where
     passing_goes r done (ByValue kind e) left row =
         let rest = row.part.rest in
         let value = rest.given.here.1 in
-        let behind = arguments_within l own.code (1 + length m.stack) left rest.given.middle rest.middle rest.given.then (instr_within own.code rest.middle (Svc (request_number r)) rest.serve.end rest.serve.by) in
+        let behind = arguments_within l piece (1 + length m.stack) left rest.given.middle rest.middle rest.given.then (instr_within piece rest.middle (Svc (request_number r)) rest.serve.end rest.serve.by) in
         operand_goes ctx s k m c a shared (Perform (Passing r done (ByValue kind e ∷ left)) ∷ k) e (Pass r kind done left) refl (omega arith) value.middle value.value.value
         value.value.shallow
         (value_within ctx (length m.stack) e kind m.place rest.given.middle value behind)
@@ -346,7 +346,7 @@ module _ (ctx : Setting) where
     serve_goes r done row =
         let count : ℕ = request_words r in
         let all : count ≡ length m.stack = omega (arith, row.part.rest.serve.words) in
-        let by = subst (λ (p : ℕ). IsAt own.code p (Svc (request_number r)) row.part.rest.serve.end) (sym row.part.rest.given) row.part.rest.serve.by in
+        let by = subst (λ (p : ℕ). IsAt piece p (Svc (request_number r)) row.part.rest.serve.end) (sym row.part.rest.given) row.part.rest.serve.by in
         let enough : nat_le count (length m.stack) ≡ true = le-leb count (length m.stack) (omega arith) in
         let none_left : drop count m.stack ≡ [] = drop_all count m.stack (omega arith) in
         let y = all_given s m shared r done row.part.on row.part.rest.forms in

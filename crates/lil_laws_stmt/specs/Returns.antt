@@ -17,7 +17,7 @@ module _ (ctx : Setting) (f g : Frame) (gs bs : List Frame) where
   abbrev returning : Setting
   returning = with_frames ctx g gs bs
 
-  module _ (s : Source) (m : State) (shared : Shared called s m) (n : ℕ) (k : List Item) (c : ℕ) (end : ℕ) (leave : IsAt f.own.code m.place Rtn end) (empty : m.stack ≡ [])
+  module _ (s : Source) (m : State) (shared : Shared called s m) (n : ℕ) (k : List Item) (c : ℕ) (end : ℕ) (leave : IsAt f.piece m.place Rtn end) (empty : m.stack ≡ [])
       (back : Back called g (RowsOf k returning) c) where
     abbrev h : Home
     h = ctx.home
@@ -94,7 +94,7 @@ module _ (ctx : Setting) (f g : Frame) (gs bs : List Frame) where
             shared = record {
               mem = mem;
               heap = shared.heap;
-              program = record { table_is = shared.program.table_is; known = g'.callers.0.known; running_is = refl; marked_is = shared.program.marked_is };
+              program = record { table_is = shared.program.table_is; known = g'.callers.0.known; piece = g'.callers.0.piece; running_is = refl; marked_is = shared.program.marked_is };
               standing = record {
                 frame_is = refl;
                 base_is = g'.base_is;

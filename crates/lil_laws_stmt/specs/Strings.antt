@@ -12,7 +12,7 @@ use Rattle.lil_laws_place.specs.Codes.{leads, addressed, written}
 
 module _ (ctx : Setting) where
   open ctx use {home as h}
-  open frame_of ctx use {own}
+  open frame_of ctx use {own, piece}
   open laid_out ctx use {layout as l}
 
   -- a string's words lie in the store

@@ -13,14 +13,14 @@ use Rattle.lil_laws_place.specs.Codes.{addressed, copied, made_ready, readied_tw
 
 module _ (ctx : Setting) where
   open ctx use {library, table, home as h}
-  open frame_of ctx use {own, number}
+  open frame_of ctx use {own, piece, number}
   open laid_out ctx use {layout as l}
 
   -- a test begins within the code where what follows it does
-  pub value_within : (n : ℕ) (e : Expression) (kind : Kind) (p q : ℕ) (r : ValueRow l own.code n e kind p q) → q < length own.code → r.middle < length own.code
+  pub value_within : (n : ℕ) (e : Expression) (kind : Kind) (p q : ℕ) (r : ValueRow l piece n e kind p q) → q < length piece → r.middle < length piece
   value_within n e kind p q r inside =
-      let value = expression_stands l own.code e p r.middle r.value.value in
-      let test = instrs_order own.code (test_code kind (kind_of e)) r.middle q r.test value.1 in
+      let value = expression_stands l piece e p r.middle r.value.value in
+      let test = instrs_order piece (test_code kind (kind_of e)) r.middle q r.test value.1 in
       omega (arith, test.0, inside)
 
   module _ (s : Source) (k : List Item) (m : State) (c : ℕ) (a : Around) (shared : Shared ctx s m) where
@@ -47,7 +47,7 @@ module _ (ctx : Setting) where
         (λ under there.
         operand_exact ctx s k (going m r.start under) c a shared items e (StoreAt place to) refl (omega arith) value.middle value.value.value
         (omega (arith, value.value.shallow, held_words ctx (readied b) place (shape_of l.scope d) under below there, ap length row.part.empty))
-        (value_within (held (readied b)) e to r.start r.middle value (instr_within own.code r.middle (store_code (readied b)) amid.end r.store))
+        (value_within (held (readied b)) e to r.start r.middle value (instr_within piece r.middle (store_code (readied b)) amid.end r.store))
         (record {
           part = record {
             of = d;
@@ -116,7 +116,7 @@ module _ (ctx : Setting) where
         addressed ctx s items m shared (access_of l d) place t m.stack below has (omega (arith, ap length r.has.at)) m.place copy.last (c + 32) (c + 1) (rw r.amid.at copy.source_address)
         (goes_one ctx s items here 0 c (running machine s.world)
         (advances here s.world _ (
-        at_step ctx here shared.program (Mov (words t)) r.amid.end (subst (λ (z : Shape). IsAt own.code copy.last (Mov (words z)) r.amid.end) (sym copy.same) copy.by)
+        at_step ctx here shared.program (Mov (words t)) r.amid.end (subst (λ (z : Shape). IsAt piece copy.last (Mov (words z)) r.amid.end) (sym copy.same) copy.by)
         ∙ ap (λ (x : List ℕ). act (Mov (words t)) r.amid.end own (going m copy.last (address h place ∷ x))) r.has.at
         ∙ copied ctx s m shared to place t r.has.living has.living has.there copy.last r.amid.end
         ))
@@ -131,7 +131,7 @@ module _ (ctx : Setting) where
     abbrev Storing : Place → Kind → Kind → List ℕ → Type 0
     Storing place to kind below = Waiting ctx (Fill (StoreAt place to)) Rest (ValueOf kind) m.place below c a
 
-    stored_test : (place : Place) (to kind : Kind) (below : List ℕ) (row : Storing place to kind below) → InstrsAt own.code (test_code to kind) m.place row.part.amid.here.middle
+    stored_test : (place : Place) (to kind : Kind) (below : List ℕ) (row : Storing place to kind below) → InstrsAt piece (test_code to kind) m.place row.part.amid.here.middle
     stored_test place to kind below row = rw (row.part.amid.at, row.part.same) row.part.amid.here.value.test
 
     -- a value that is no reference is tested
@@ -161,7 +161,7 @@ module _ (ctx : Setting) where
         let same : kind ≡ to = other ∙ sym one in
         let fits : within to v ≡ true = ap (λ (j : Kind). within j v) (sym same) ∙ fit in
         let stays : m.place ≡ row.part.amid.here.middle =
-        subst (λ (j : Kind). InstrsAt own.code (test_code j (OfPointer n)) m.place row.part.amid.here.middle) one (subst (λ (j : Kind). InstrsAt own.code (test_code to j) m.place row.part.amid.here.middle) other (stored_test place to kind below row)) in
+        subst (λ (j : Kind). InstrsAt piece (test_code j (OfPointer n)) m.place row.part.amid.here.middle) one (subst (λ (j : Kind). InstrsAt piece (test_code to j) m.place row.part.amid.here.middle) other (stored_test place to kind below row)) in
         goes_more ctx s items m (c + 1) (c + 32)
         (subst (λ (p : ℕ). Goes ctx s items (going m p m.stack) (c + 1)) (sym stays)
         (stored_goes ctx s items m shared row.part.amid.here.middle m.stack (readied (access_of l row.part.of)) place to below row.part.has (readied_twice ctx (access_of l row.part.of)) v fits (subst (λ (j : Kind). Refers h j v) same refers) is

@@ -13,7 +13,7 @@ use Rattle.lil_laws_stmt.specs.Control.{body_rows}
 
 module _ (ctx : Setting) where
   open ctx use {home as h}
-  open frame_of ctx use {own}
+  open frame_of ctx use {own, piece}
   open laid_out ctx use {layout as l}
 
   module _ (s : Source) (k : List Item) (m : State) (c : ℕ) (a : Around) (shared : Shared ctx s m) where

@@ -54,7 +54,8 @@ fn statement_words(of: &RStmt) -> u32
         | RStmt::Allocate(_, _, _)
         | RStmt::Exit
         | RStmt::Halt
-        | RStmt::Return => 0,
+        | RStmt::Return
+        | RStmt::Call(_, _) => 0,
         RStmt::Text(_, text) => string_words(text.get()),
         RStmt::Request(_, arguments) => arguments_words(arguments.as_slice()),
         RStmt::If(guards, otherwise) => {

@@ -2,7 +2,7 @@
 
 use crate::page::{Page, shown};
 use crate::tokens::place_text;
-use lil_base::Memory;
+use lil_base::{Items, Memory};
 use lil_language::{Decl, Import, Unit};
 use lil_resolved::{RBase, RKind, RModule, RShape};
 use lil_text::Ident;
@@ -35,6 +35,15 @@ fn show_import(page: &mut Page, import: &Import) -> Result<(), Memory> {
     }
 }
 
+#[cycle(declaration)]
+fn show_declarations(page: &mut Page, of: &Items<Decl>) -> Result<(), Memory> {
+    for declaration in of.as_slice() {
+        show_declaration(page, declaration)?;
+    }
+    Ok(())
+}
+
+#[cycle(declaration)]
 fn show_declaration(page: &mut Page, of: &Decl) -> Result<(), Memory> {
     match of {
         Decl::ConstIs(_, constants) => {
@@ -52,7 +61,12 @@ fn show_declaration(page: &mut Page, of: &Decl) -> Result<(), Memory> {
                 show_all(page, alike.names.as_slice(), "a variable")?;
             }
         }
-        Decl::ProcIs(heading, _) => show_name(page, &heading.name, "a procedure")?,
+        Decl::ProcIs(heading, block) => {
+            show_name(page, &heading.name, "a procedure")?;
+            if let Some(block) = block {
+                show_declarations(page, &block.decls)?;
+            }
+        }
     }
     Ok(())
 }
@@ -64,10 +78,7 @@ pub(crate) fn show_names(page: &mut Page, unit: &Unit) -> Result<(), Memory> {
     for import in unit.head.imports.as_slice() {
         show_import(page, import)?;
     }
-    for declaration in unit.decls.as_slice() {
-        show_declaration(page, declaration)?;
-    }
-    Ok(())
+    show_declarations(page, &unit.decls)
 }
 
 fn base_text(alloc: Global, base: RBase) -> Result<String, Memory> {

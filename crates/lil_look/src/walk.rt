@@ -1,12 +1,12 @@
-//! The third part: the code of a module, along the statements of its text. Statements have code in the order of the text, and
-//! each part of one ends with an instruction of its own kind.
+//! The third part: the code of a module, along the statements of its text, and behind it that of its procedures.
+//! Statements have code in the order of the text, and each part of one ends with an instruction of its own kind.
 
 use crate::instructions::{Code, Step, instr_text, step_at};
 use crate::page::{Page, shown};
 use crate::source::Source;
 use lil_asm::{Instr, word_of_bytes};
 use lil_base::{Items, Memory, Place};
-use lil_language::{Arm, Guard, Stmt, Unit, first_place};
+use lil_language::{Arm, Block, Decl, Guard, Stmt, Unit, first_place};
 use std::alloc::Global;
 
 /// A page that shows code, and how far it has come.
@@ -45,6 +45,7 @@ fn is_last(ending: Ending, instr: Instr) -> bool {
                 | Instr::Ecl
                 | Instr::Alc
                 | Instr::Svc(_)
+                | Instr::Cll(_, _)
                 | Instr::Jmp(_)
                 | Instr::Rtn
                 | Instr::Trp(_)
@@ -222,6 +223,25 @@ fn show_arms(arms: &Items<Arm>, walk: &mut Walk<'_>, at: Place) -> Result<(), Me
     Ok(())
 }
 
+/// Shows the code of the procedures that are declared, each before those inside of it.
+#[cycle(procedure)]
+fn show_procedures(of: &Items<Decl>, walk: &mut Walk<'_>) -> Result<(), Memory> {
+    for declaration in of.as_slice() {
+        if let Decl::ProcIs(heading, Some(block)) = declaration {
+            show_procedure(heading.place, block, walk)?;
+        }
+    }
+    Ok(())
+}
+
+#[cycle(procedure)]
+fn show_procedure(at: Place, of: &Block, walk: &mut Walk<'_>) -> Result<(), Memory> {
+    show_part(walk, "", at, Ending::Only)?;
+    show_body(&of.body, walk)?;
+    show_part(walk, "END ", of.end.place, Ending::Only)?;
+    show_procedures(&of.decls, walk)
+}
+
 /// Shows the code of a unit, each instruction with the line that it comes from.
 pub(crate) fn show_code(
     page: &mut Page,
@@ -239,6 +259,7 @@ pub(crate) fn show_code(
     show_part(&mut walk, "", unit.head.place, Ending::Only)?;
     show_body(&unit.body, &mut walk)?;
     show_part(&mut walk, "END ", unit.end.place, Ending::Only)?;
+    show_procedures(&unit.decls, &mut walk)?;
     for _ in walk.place..code.bytes.len() {
         show_part(&mut walk, "beyond END ", unit.end.place, Ending::Only)?;
     }

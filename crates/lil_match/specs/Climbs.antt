@@ -8,7 +8,7 @@ use Rattle.lil_match.specs.{Homes.{Owner, Own}, Waits.Frame, Goes.{Stands, Among
 -- the links of one of the frames, whose frames below are some of them
 pub record LinkedAt (shadow : ℕ → ℕ) (acts : List Activation) (fs : List Frame) (to : Frame) : Type 0 where
   pub under : List Frame
-  pub link : Linked shadow acts to.activation to.at to.layout.chain under
+  pub link : Linked shadow acts to.activation to.at to.layout.scope.chain under
   pub within : (g : Frame) → Among g under → Among g fs
 
 pub linked_at : (shadow : ℕ → ℕ) (acts : List Activation) (f : Frame) (gs : List Frame) → Chained shadow acts f gs → (to : Frame) → Among to (f ∷ gs) → LinkedAt shadow acts (f ∷ gs) to
@@ -33,19 +33,19 @@ pub record Climbs (acts : List Activation) (store : List ℕ) (f : Frame) (gs : 
   pub to : Frame
   pub among : Among to (f ∷ gs)
   pub level : level_out acts f.activation i ≡ Some to.activation
-  pub chain : to.layout.chain ≡ drop i f.layout.chain
+  pub chain : to.layout.scope.chain ≡ drop i f.layout.scope.chain
   pub reached : frame_out store f.at i ≡ to.at
 
 module _ (shadow : ℕ → ℕ) (acts : List Activation) (store : List ℕ) (f : Frame) (gs : List Frame) (chained : Chained shadow acts f gs) (kept : (g : Frame) → Among g (f ∷ gs) → get_or store g.at 0 ≡ shadow g.at) where
   -- THE law of outer variables and of marks
-  pub climbs : (i : ℕ) → i < length f.layout.chain → Climbs acts store f gs i
+  pub climbs : (i : ℕ) → i < length f.layout.scope.chain → Climbs acts store f gs i
   climbs zero less = record { to = f; among = inl refl; level = refl; chain = refl; reached = refl }
   climbs (suc i) less =
       let c = climbs i (omega (arith, less)) in
-      let next = drop-cons f.layout.chain (suc i) 0 less in
+      let next = drop-cons f.layout.scope.chain (suc i) 0 less in
       let l = linked_at shadow acts f gs chained c.to c.among in
-      let link : LinkedTo shadow acts c.to.activation c.to.at (get_or f.layout.chain (suc i) 0) (drop (suc (suc i)) f.layout.chain) l.under =
-      subst (λ (es : List ℕ). Linked shadow acts c.to.activation c.to.at es l.under) (c.chain ∙ drop-cons f.layout.chain i 0 (omega (arith, less)) ∙ ap (λ (es : List ℕ). get_or f.layout.chain i 0 ∷ es) next) l.link in
+      let link : LinkedTo shadow acts c.to.activation c.to.at (get_or f.layout.scope.chain (suc i) 0) (drop (suc (suc i)) f.layout.scope.chain) l.under =
+      subst (λ (es : List ℕ). Linked shadow acts c.to.activation c.to.at es l.under) (c.chain ∙ drop-cons f.layout.scope.chain i 0 (omega (arith, less)) ∙ ap (λ (es : List ℕ). get_or f.layout.scope.chain i 0 ∷ es) next) l.link in
       record {
         to = link.to;
         among = l.within link.to link.among;

@@ -4,10 +4,11 @@ use Rattle.std.proofs.Common.{◌≡◌, ℕ, ◌+◌, ◌<◌, ◌≤◌, ◌�
 use Rattle.std.specs.Prelude.{slice_get}
 use Rattle.lil_base.specs.declared.fault.{LimitKind.LimitKind, TrapAt.TrapAt}
 use Rattle.lil_base.specs.declared.fault.LimitKind.TheVariants as limit
-use Rattle.lil_resolved.specs.{Resolved.{Procedure, Resolved, procedure_by}, Sizes.frame_words, Kinds.{Shape, is_there, shape_at}}
+use Rattle.lil_resolved.specs.{Resolved.{Procedure, Resolved, procedure_by, around_of}, Sizes.frame_words, Kinds.{Shape, is_there, shape_at}}
 use Rattle.lil_meaning.specs.{Items.{Root, Global, Object, Cells, targets_of, loaded_at, Item, Activation, Workspace, Parked, Level, Phase, Going, Closing, Ended, Trapped, Source, heap_words}, World.{World, all_closed}, Need.{frame_of, chain_of}, Steps.{next, owner_of, procedure_of, procedures_of, surrounding, name_of, procedure_name}}
 use Rattle.lil_mcode.specs.Table.{Module, StackRegisters, Kept, State, stack_of, module_at}
-use Rattle.lil_table.specs.Rows.{Layout, ProcedureRow, exactly}
+use Rattle.lil_asm.specs.Stretches.{stretch}
+use Rattle.lil_table.specs.Rows.{Layout, FramedRow, exactly}
 use Rattle.lil_match.specs.{Running.{Finish, Running, Finished, TrappedBy, Limited, Run, mrun, running}, Homes.{Owner, Own, Fixed, Free, Home, Extends, lives, Mem}, Waits.{stutter, Frame, Stack, Setting, Quiet, Around, Ahead}}
 
 -- a run that has shown no more, and goes on
@@ -30,10 +31,19 @@ Stands owner base top f (g ∷ gs) = OwnWords owner f top × Stands owner base f
 abbrev pub number_of : Frame → ℕ
 number_of f = f.number
 
--- a procedure of a module's table has this name, and an entry
-pub record HasName (procedures : List (ℕ × Option (List ℕ))) (p : ℕ) (name : Option (List ℕ)) : Type 0 where
-  pub entry : ℕ
-  pub there : slice_get procedures p ≡ Some (entry, name)
+-- no other procedure of a table begins in the code of one
+abbrev pub IsApart : List (ℕ × Option (List ℕ)) → (p entry after : ℕ) → Type 0
+IsApart procedures p entry after = (k e : ℕ) (name : Option (List ℕ)) → slice_get procedures k ≡ Some (e, name) → (k ≡ p) ⊎ ((e < entry) ⊎ (after ≤ e))
+
+-- a frame's code is a stretch of that of its module
+pub record IsPiece (f : Frame) : Type 0 where
+  pub is : f.piece ≡ stretch f.entry f.after f.own.code
+  pub within : f.after ≤ length f.own.code
+
+-- it is that of a procedure of the module's table, which has this name
+pub record IsNamed (f : Frame) (name : Option (List ℕ)) : Type 0 where
+  pub there : slice_get f.own.procedures f.procedure ≡ Some (f.entry, name)
+  pub apart : IsApart f.own.procedures f.procedure f.entry f.after
 
 -- ---- activations and their frames
 -- the first list has all that the second has, by the same numbers
@@ -50,7 +60,7 @@ pub record LinkedTo (shadow : ℕ → ℕ) (activations : List Activation) (a at
   pub to : Frame
   pub among : Among to gs
   pub outer : surrounding activations a ≡ Some to.activation
-  pub chain : to.layout.chain ≡ e ∷ es
+  pub chain : to.layout.scope.chain ≡ e ∷ es
   pub word : shadow at ≡ to.at
 
 -- none is around a procedure of the module
@@ -60,12 +70,12 @@ Linked shadow activations a at (p ∷ []) gs = Unit {0}
 Linked shadow activations a at (p ∷ e ∷ es) gs = LinkedTo shadow activations a at e es gs
 
 abbrev pub Chained : (ℕ → ℕ) → List Activation → Frame → List Frame → Type 0
-Chained shadow activations f [] = Linked shadow activations f.activation f.at f.layout.chain []
-Chained shadow activations f (g ∷ gs) = Linked shadow activations f.activation f.at f.layout.chain (g ∷ gs) × Chained shadow activations g gs
+Chained shadow activations f [] = Linked shadow activations f.activation f.at f.layout.scope.chain []
+Chained shadow activations f (g ∷ gs) = Linked shadow activations f.activation f.at f.layout.scope.chain (g ∷ gs) × Chained shadow activations g gs
 
 -- what a layout says of the module alone, and layouts in one module
 abbrev pub module_part : Layout → Layout
-module_part l = record l { scope = record (l.scope) { held = [] }; held = []; frame = 0; target = exactly; chain = [] }
+module_part l = record l { scope = record (l.scope) { held = []; chain = [] }; held = []; frame = 0; target = exactly }
 
 abbrev pub IsPart : Layout → Layout → Type 0
 IsPart l m = module_part m ≡ module_part l
@@ -75,14 +85,17 @@ pub record Entered (own : Module) (l : Layout) (p : ℕ) (its : Procedure) : Typ
   pub inner : Layout
   pub part : IsPart l inner
   pub frame : inner.frame ≡ frame_words its.body
-  pub chain : inner.chain ≡ p ∷ its.around
+  pub chain : inner.scope.chain ≡ p ∷ its.around
   pub free : inner.held ≡ []
   pub entry : ℕ
   pub there : slice_get own.procedures p ≡ Some (entry, Some its.name)
-  pub code : ProcedureRow (record inner { target = exactly }) own.code its entry
+  pub after : ℕ
+  pub within : after ≤ length own.code
+  pub apart : IsApart own.procedures p entry after
+  pub code : FramedRow (record inner { target = exactly }) (stretch entry after own.code) its.body entry after
 
-abbrev pub HasCodes : Module → Layout → Type 0
-HasCodes own l = (p : ℕ) (its : Procedure) → procedure_by l.procedures p ≡ Some its → Entered own l p its
+abbrev pub HasCodes : Module → List Procedure → Layout → Type 0
+HasCodes own ps l = (p : ℕ) (its : Procedure) → procedure_by ps p ≡ Some its → Entered own l p its
 
 module _ (library : List Resolved) (loaded : List ℕ) (table : List Module) (activations : List Activation) (h : Home) where
   -- A frame's module is loaded, its activation runs in it, and its variables live where its layout says. The words of its strings, behind
@@ -94,10 +107,11 @@ module _ (library : List Resolved) (loaded : List ℕ) (table : List Module) (ac
     pub runs : slice_get activations f.activation ≡ Some its
     pub owner : owner_of (slice_get activations f.activation) ≡ f.number
     pub called : procedure_of (slice_get activations f.activation) ≡ f.procedure
-    pub entered : HasName f.own.procedures f.procedure (procedure_name (loaded_at library loaded f.number) f.procedure)
+    pub entered : IsNamed f (procedure_name (loaded_at library loaded f.number) f.procedure)
+    pub piece : IsPiece f
     pub size : f.layout.frame ≡ frame_of (loaded_at library loaded f.number) f.procedure
-    pub procedures : f.layout.procedures ≡ procedures_of (loaded_at library loaded f.number)
-    pub codes : HasCodes f.own f.layout
+    pub procedures : f.layout.scope.procedures ≡ map around_of (procedures_of (loaded_at library loaded f.number))
+    pub codes : HasCodes f.own (procedures_of (loaded_at library loaded f.number)) f.layout
     pub variables : (x offset : ℕ) (t : Shape) → slice_get f.layout.offsets x ≡ Some offset → slice_get f.layout.scope.variables x ≡ Some t
         → (h.shape (Global f.number x) ≡ t) × (h.base (Global f.number x) ≡ f.own.base + offset)
     pub strings : (i : ℕ) → i < length f.layout.strings
@@ -116,7 +130,7 @@ module _ (library : List Resolved) (loaded : List ℕ) (table : List Module) (ac
     pub later : 0 < b.activation
     pub at : b.at ≡ low
     pub mark : 4 ≤ b.layout.frame
-    pub chain : b.layout.chain ≡ []
+    pub chain : b.layout.scope.chain ≡ []
 
   abbrev pub EachComes : ℕ → List Frame → Type 0
   EachComes low [] = Unit {0}
@@ -171,6 +185,7 @@ module _ (ctx : Setting) where
   pub record IsProgram (modules : List Module) (number : ℕ) (marked : Bool) : Type 0 where
     pub table_is : modules ≡ table
     pub known : module_at table st.frame.number ≡ Some st.frame.own
+    pub piece : IsPiece st.frame
     pub running_is : number ≡ st.frame.number
     pub marked_is : marked ≡ true
 
@@ -208,7 +223,9 @@ module _ (ctx : Setting) where
     pub running_is : run.machine.running ≡ st.frame.number
     pub known : module_at table st.frame.number ≡ Some st.frame.own
     pub name : t.«module» ≡ st.frame.own.name
-    pub procedure : HasName st.frame.own.procedures st.frame.procedure t.procedure
+    pub procedure : IsNamed st.frame t.procedure
+    pub low : st.frame.entry ≤ run.machine.place
+    pub high : run.machine.place < st.frame.after
 
   -- the machine has come to where the source is, with so many jumps owed
   abbrev pub Lands : Phase → Source → Run → ℕ → Type 0

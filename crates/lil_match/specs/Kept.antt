@@ -228,7 +228,7 @@ pub rows_renewed : (k : List Item) (ctx : Setting) (acts : List Activation) (x :
 rows_renewed [] ctx acts x n low above t p stack c a keeps r = absurd r
 rows_renewed (Perform (Looping body) ∷ k) ctx acts x n low above t p stack c a keeps r =
     let w = r.there in
-    jumps_same ctx.stack.frame.own.code _ _ t p stack c a r (record {
+    jumps_same ctx.stack.frame.piece _ _ t p stack c a r (record {
       quiet = w.quiet;
       empty = w.empty;
       outer = w.outer;
@@ -243,7 +243,7 @@ rows_renewed (Perform (Looping body) ∷ k) ctx acts x n low above t p stack c a
           w.then;
     })
 rows_renewed (Perform (Turns v kind z step left body) ∷ k) ctx acts x n low above t p stack c a keeps r =
-    jumps_same ctx.stack.frame.own.code _ _ t p stack c a r (by (rows_renewed k ctx acts x n low above) r.there)
+    jumps_same ctx.stack.frame.piece _ _ t p stack c a r (by (rows_renewed k ctx acts x n low above) r.there)
   where
     at : ℕ
     at = ctx.stack.frame.at
@@ -299,7 +299,7 @@ rows_renewed (Perform (Holding place) ∷ k) ctx acts x n low above t p stack c 
     let at : address ctx.home place ≡ address x place = omega (arith, keeps.base place.root w.seen alive, ap (λ (t : Shape). offset t place.path) same) in
     let outer : EachAbove low (frames_of w.before.stack) = subst (λ (c : Setting). EachAbove low (frames_of c.stack)) w.is above in
     let frame : ctx.stack.frame.at ≡ w.before.stack.frame.at = ap (λ (c : Setting). c.stack.frame.at) w.is in
-    jumps_same ctx.stack.frame.own.code _ _ t p stack c a r (record {
+    jumps_same ctx.stack.frame.piece _ _ t p stack c a r (record {
       quiet = w.quiet;
       empty = w.empty;
       outer = w.outer;
@@ -319,7 +319,7 @@ rows_renewed (Perform (Holding place) ∷ k) ctx acts x n low above t p stack c 
     })
 rows_renewed (Perform (End e) ∷ k) ctx acts x n low above t p stack c a keeps r =
     let w = r.there in
-    jumps_same ctx.stack.frame.own.code _ _ t p stack c a r (record {
+    jumps_same ctx.stack.frame.piece _ _ t p stack c a r (record {
       quiet = w.quiet;
       empty = w.empty;
       activation = w.activation;
@@ -332,7 +332,7 @@ rows_renewed (Perform (End e) ∷ k) ctx acts x n low above t p stack c a keeps 
     })
 rows_renewed (i ∷ k) ctx acts x n low above t p stack c a keeps r =
     let m = met ctx acts x n low (ctx.stack.frame.at + loop_place a.taken) keeps t i r.start stack a r.there.part in
-    jumps_same ctx.stack.frame.own.code _ _ t p stack c a r (record {
+    jumps_same ctx.stack.frame.piece _ _ t p stack c a r (record {
       part = m.part;
       then = subst (λ (o : Onward). Rows (renewed ctx acts x n) k o.mode o.place o.stack r.later a) m.onto
           (rows_renewed k ctx acts x n low above _ _ _ r.later a keeps r.there.then);
@@ -405,10 +405,10 @@ linked_kept old new acts more grows a at (p ∷ e ∷ es) gs same l =
 pub chained_kept : (old new : ℕ → ℕ) (acts more : List Activation) → Grows more acts → (owner : ℕ → Owner) (base top : ℕ) (f : Frame) (gs : List Frame) → Stands owner base top f gs
     → ((a : ℕ) → base ≤ a → a ≤ f.at → new a ≡ old a) → Chained old acts f gs → Chained new more f gs
 chained_kept old new acts more grows owner base top f [] stands same c =
-    linked_kept old new acts more grows f.activation f.at f.layout.chain [] (same f.at (stands_above owner base top f [] [] stands tt).0 (omega arith)) c
+    linked_kept old new acts more grows f.activation f.at f.layout.scope.chain [] (same f.at (stands_above owner base top f [] [] stands tt).0 (omega arith)) c
 chained_kept old new acts more grows owner base top f (g ∷ gs) stands same c =
     let low = first_words owner base f.at g gs stands.1 in (
-      linked_kept old new acts more grows f.activation f.at f.layout.chain (g ∷ gs) (same f.at (stands_above owner base top f (g ∷ gs) [] stands tt).0 (omega arith)) c.0,
+      linked_kept old new acts more grows f.activation f.at f.layout.scope.chain (g ∷ gs) (same f.at (stands_above owner base top f (g ∷ gs) [] stands tt).0 (omega arith)) c.0,
       chained_kept old new acts more grows owner base f.at g gs stands.1 (λ a from below. same a from (omega (arith, below, low.below))) c.1,
     )
 
@@ -449,7 +449,7 @@ module _ (ctx : Setting) (s : Source) (m : State) (shared : Shared ctx s m) (i w
         loaded_are = shared.loaded_are;
         levels = shared.levels;
         heap = shared.heap;
-        program = record { table_is = shared.program.table_is; known = shared.program.known; running_is = shared.program.running_is; marked_is = shared.program.marked_is };
+        program = record { table_is = shared.program.table_is; known = shared.program.known; piece = shared.program.piece; running_is = shared.program.running_is; marked_is = shared.program.marked_is };
         standing = record {
           frame_is = g.frame_is;
           base_is = g.base_is;

@@ -19,6 +19,7 @@ module _ (library : List Resolved) (loaded : List ℕ) (table : List Module) (ac
         owner = ap owner_of there ∙ sym (ap owner_of g.runs) ∙ g.owner;
         called = ap procedure_of there ∙ sym (ap procedure_of g.runs) ∙ g.called;
         entered = g.entered;
+        piece = g.piece;
         size = g.size;
         procedures = g.procedures;
         codes = g.codes;

@@ -1,11 +1,11 @@
 -- What is around the running frame's WITHs: the same but for the records that its layout holds.
 use Rattle.std.proofs.Common.{◌≡◌, ℕ, ◌+◌, Some, List, [], ◌∷◌, length, get_or, refl, sym, ap, ◌∙◌, subst, arith}
 use Rattle.std.specs.Prelude.{slice_get}
-use Rattle.lil_resolved.specs.{Kinds.Shape, Resolved.{Resolved, procedure_by}}
-use Rattle.lil_meaning.specs.{Items.{Item, Activation, Source, loaded_at}, Need.frame_of, Steps.{owner_of, procedure_of, procedure_name}}
+use Rattle.lil_resolved.specs.{Kinds.Shape, Resolved.{Procedure, Resolved}}
+use Rattle.lil_meaning.specs.{Items.{Item, Activation, Source, loaded_at}, Need.frame_of, Steps.{owner_of, procedure_of, procedures_of, procedure_name}}
 use Rattle.lil_mcode.specs.Table.{Module, State, StackRegisters, stack_of}
 use Rattle.lil_table.specs.Rows.{Layout, holding}
-use Rattle.lil_match.specs.{Homes.Home, Goes.{HasName, OwnWords, Stands, Linked, Chained, IsPart, module_part, HasCodes, IsKnown, Standing, Shared, Goes}, Waits.{Frame, Setting, inside_with}}
+use Rattle.lil_match.specs.{Homes.Home, Goes.{IsNamed, IsPiece, OwnWords, Stands, Linked, Chained, IsPart, module_part, HasCodes, IsKnown, Standing, Shared, Goes}, Waits.{Frame, Setting, inside_with}}
 
 -- the running frame with another layout
 abbrev pub with_layout : Setting → Layout → Setting
@@ -19,13 +19,16 @@ abbrev pub IsAlike : Layout → Layout → Type 0
 IsAlike l m = plain m ≡ plain l
 
 -- the codes of procedures are those of any layout in the module
-pub codes_part : (own : Module) (l m : Layout) → IsPart l m → HasCodes own l → HasCodes own m
-codes_part own l m part codes p its is =
-    let e = codes p its (ap (λ (y : Layout). procedure_by y.procedures p) (sym part) ∙ is) in
-    record { inner = e.inner; part = e.part ∙ sym part; frame = e.frame; chain = e.chain; free = e.free; entry = e.entry; there = e.there; code = e.code }
+pub codes_part : (own : Module) (ps : List Procedure) (l m : Layout) → IsPart l m → HasCodes own ps l → HasCodes own ps m
+codes_part own ps l m part codes p its is =
+    let e = codes p its is in
+    record { inner = e.inner; part = e.part ∙ sym part; frame = e.frame; chain = e.chain; free = e.free; entry = e.entry; there = e.there; after = e.after; within = e.within; apart = e.apart; code = e.code }
 
 -- what is known of a frame is known of another one of the module
-module _ (library : List Resolved) (loaded : List ℕ) (table : List Module) (acts more : List Activation) (h : Home) (f : Frame) (m : Layout) (activation procedure at back : ℕ) (part : IsPart f.layout m) where
+module _ (library : List Resolved) (loaded : List ℕ) (table : List Module) (acts more : List Activation) (h : Home) (f : Frame) (m : Layout) (activation procedure entry after : ℕ) (piece : List ℕ) (at back : ℕ) (part : IsPart f.layout m) where
+  abbrev other : Frame
+  other = record { activation = activation; number = f.number; procedure = procedure; own = f.own; entry = entry; after = after; piece = piece; layout = m; at = at; back = back }
+
   strings : m.strings ≡ f.layout.strings
   strings = ap (λ (y : Layout). y.strings) part
 
@@ -33,9 +36,9 @@ module _ (library : List Resolved) (loaded : List ℕ) (table : List Module) (ac
   words = ap (λ (y : Layout). y.words) part
 
   pub known_part : (its : Activation) → slice_get more activation ≡ Some its → owner_of (slice_get more activation) ≡ f.number → procedure_of (slice_get more activation) ≡ procedure
-      → HasName f.own.procedures procedure (procedure_name (loaded_at library loaded f.number) procedure) → m.frame ≡ frame_of (loaded_at library loaded f.number) procedure → IsKnown library loaded table acts h f
-      → IsKnown library loaded table more h (record { activation = activation; number = f.number; procedure = procedure; own = f.own; layout = m; at = at; back = back })
-  known_part its runs owner called entered size k = record {
+      → IsNamed other (procedure_name (loaded_at library loaded f.number) procedure) → IsPiece other → m.frame ≡ frame_of (loaded_at library loaded f.number) procedure → IsKnown library loaded table acts h f
+      → IsKnown library loaded table more h other
+  known_part its runs owner called entered its_piece size k = record {
     known = k.known;
     named = k.named;
     its = its;
@@ -43,9 +46,10 @@ module _ (library : List Resolved) (loaded : List ℕ) (table : List Module) (ac
     owner = owner;
     called = called;
     entered = entered;
+    piece = its_piece;
     size = size;
-    procedures = ap (λ (y : Layout). y.procedures) part ∙ k.procedures;
-    codes = codes_part f.own f.layout m part k.codes;
+    procedures = ap (λ (y : Layout). y.scope.procedures) part ∙ k.procedures;
+    codes = codes_part f.own (procedures_of (loaded_at library loaded f.number)) f.layout m part k.codes;
     variables = λ x o t at typed. k.variables x o t (ap (λ (y : Layout). slice_get y.offsets x) (sym part) ∙ at) (ap (λ (y : Layout). slice_get y.scope.variables x) (sym part) ∙ typed);
     strings = λ i less.
         let old = k.strings i (omega (arith, less, ap length strings)) in
@@ -63,11 +67,11 @@ module _ (ctx : Setting) (m : Layout) (alike : IsAlike ctx.stack.frame.layout m)
   same_frame : m.frame ≡ ctx.stack.frame.layout.frame
   same_frame = ap (λ (y : Layout). y.frame) alike
 
-  same_chain : m.chain ≡ ctx.stack.frame.layout.chain
-  same_chain = ap (λ (y : Layout). y.chain) alike
+  same_chain : m.scope.chain ≡ ctx.stack.frame.layout.scope.chain
+  same_chain = ap (λ (y : Layout). y.scope.chain) alike
 
   known_laid : IsKnown ctx.library ctx.loaded ctx.table ctx.activations ctx.home ctx.stack.frame → IsKnown ctx.library ctx.loaded ctx.table ctx.activations ctx.home (record (ctx.stack.frame) { layout = m })
-  known_laid k = known_part ctx.library ctx.loaded ctx.table ctx.activations ctx.activations ctx.home f m f.activation f.procedure f.at f.back (ap module_part alike) k.its k.runs k.owner k.called k.entered (same_frame ∙ k.size) k
+  known_laid k = known_part ctx.library ctx.loaded ctx.table ctx.activations ctx.activations ctx.home f m f.activation f.procedure f.entry f.after f.piece f.at f.back (ap module_part alike) k.its k.runs k.owner k.called (record { there = k.entered.there; apart = k.entered.apart }) (record { is = k.piece.is; within = k.piece.within }) (same_frame ∙ k.size) k
 
   words_laid : (top : ℕ) → OwnWords ctx.home.owner ctx.stack.frame top → OwnWords ctx.home.owner (record (ctx.stack.frame) { layout = m }) top
   words_laid top w = record { mark = omega (arith, w.mark, same_frame); below = omega (arith, w.below, same_frame); most = omega (arith, w.most, same_frame); own = w.own }
@@ -101,7 +105,7 @@ module _ (ctx : Setting) (m : Layout) (alike : IsAlike ctx.stack.frame.layout m)
   shared_laid s x shared = record {
     mem = shared.mem;
     heap = shared.heap;
-    program = record { table_is = shared.program.table_is; known = shared.program.known; running_is = shared.program.running_is; marked_is = shared.program.marked_is };
+    program = record { table_is = shared.program.table_is; known = shared.program.known; piece = record { is = shared.program.piece.is; within = shared.program.piece.within }; running_is = shared.program.running_is; marked_is = shared.program.marked_is };
     standing = standing_laid (stack_of x) shared.standing;
     loaded_are = shared.loaded_are;
     activations_are = shared.activations_are;

@@ -1,5 +1,5 @@
 -- One step of the source from steps of the machine, and the activation at hand from any row.
-use Rattle.std.proofs.Common.{◌≡◌, ℕ, zero, suc, ◌+◌, ◌<◌, Option, Some, None, List, [], ◌∷◌, ◌++◌, length, true, ⊎_elim, refl, sym, ap, ◌∙◌, subst, arith, ◌≤◌, inl, inr}
+use Rattle.std.proofs.Common.{◌≡◌, ℕ, zero, suc, ◌+◌, ◌<◌, Option, Some, None, Bool, List, [], ◌∷◌, ◌++◌, length, true, ⊎_elim, refl, sym, ap, ◌∙◌, subst, arith, ◌≤◌, inl, inr}
 use Rattle.std.specs.Prelude.{slice_get}
 use Rattle.std.proofs.lemmas.{Option.same_Some, Bool.lt-ltb}
 use Rattle.lil_base.specs.declared.fault.{TrapKind.TrapKind, LimitKind.LimitKind}
@@ -7,10 +7,10 @@ use Rattle.lil_resolved.specs.{Kinds.{Shape, is_there}, Resolved.{Designator, Ex
 use Rattle.lil_meaning.specs.{Items.{Global, Place, loaded_at, Turns, Holding, End, Item, Perform, Activation, Going, Source, Cells, Root, Local, Object, Hole, Evaluate, PlaceOf, Fill}, World.{all_closed, World}, Steps.{current, held_in, owner_of, procedure_of, procedure_name, trap_at, trapped, next}}
 use Rattle.lil_mcode.specs.{declared.machine.Event.{Event, TheVariants.{Trap, Went, Limit}}, Table.{Kept, State, Module, module_at, mstep, act, fetched, performed, going, push_row}}
 use Rattle.lil_table.specs.Rows.{InData, holding, loop_place, IsAt, PlaceAt, ExpressionAt}
-use Rattle.lil_match.specs.{Goes.{HasName, Shared, IsTrapped, IsProgram, GoesOn, Lands, IsStill, Touches, Short, IsFull, Grows, Goes}, Running.{running, react, Run, mrun, advanced}, Homes.{address, shape_there, Home, extends_self, lives, Mem}, Kept.sees_laid}
+use Rattle.lil_match.specs.{Goes.{IsNamed, Shared, IsTrapped, IsProgram, GoesOn, Lands, IsStill, Touches, Short, IsFull, Grows, Goes}, Running.{running, react, Run, mrun, advanced}, Homes.{address, shape_there, Home, extends_self, lives, Mem}, Kept.sees_laid}
 use Rattle.lil_match.specs.{Waits.{stutter, Setting, frames_of, inside_with, sees, Mode, Around, RowsOf, Rows, HasPlace, HoldingWaits, Stack, frame_of, laid_out, at_home, Quiet, ValueOf, AtPlace, Reach, Jumps, AfterJumps, Ahead, Waiting}, Parts.yes}
 use Rattle.lil_base.specs.declared.fault.LimitKind.TheVariants as limit
-use Rattle.lil_asm.specs.declared.instr.Instr.{Instr, TheVariants.Jmp}
+use Rattle.lil_asm.specs.{declared.instr.Instr.{Instr, TheVariants.Jmp}, Stretches.{stretch_short, IsInside, decoded_inside}}
 
 -- ---- the activation at hand, from any row
 
@@ -93,14 +93,25 @@ held_here ctx (Perform (Holding place) ∷ k) t p stack c a r w word shape at ty
 held_here ctx (Perform (End n) ∷ k) t p stack c a r w word shape at typed = absurd (none_in ctx.stack.frame.layout.held w word r.there.free at)
 held_here ctx (i ∷ k) t p stack c a r w word shape at typed = held_here ctx k _ _ _ _ _ r.there.then w word shape at typed
 
+-- an instruction of the running frame's code is one of its module's
+pub stands_inside : (ctx : Setting) {modules : List Module} {number : ℕ} {marked : Bool} → IsProgram ctx modules number marked → (p : ℕ) (i : Instr) (q : ℕ) → IsAt ctx.stack.frame.piece p i q
+    → IsInside ctx.stack.frame.entry ctx.stack.frame.after ctx.stack.frame.own.code p (i, q)
+stands_inside ctx g p i q there =
+    let f = ctx.stack.frame in
+    decoded_inside ctx.stack.frame.entry ctx.stack.frame.after ctx.stack.frame.own.code p (i, q) g.piece.within (subst (λ (code : List ℕ). IsAt code p i q) g.piece.is there)
+
+pub inside_own : (ctx : Setting) {modules : List Module} {number : ℕ} {marked : Bool} → IsProgram ctx modules number marked → (to : ℕ) → to < length ctx.stack.frame.piece → to < length ctx.stack.frame.own.code
+inside_own ctx g to less = omega (arith, less, ap length g.piece.is, stretch_short ctx.stack.frame.entry ctx.stack.frame.after ctx.stack.frame.own.code)
+
 module _ (ctx : Setting) where
   open ctx use {library, loaded, stack as st}
 
   -- a trap that both sides give: the meaning names the module at hand
-  pub both_trap : (s : Source) (k : List Item) (m : State) (kind : TrapKind) → Shared ctx s m → current k ≡ st.frame.activation
+  pub both_trap : (s : Source) (k : List Item) (m : State) (kind : TrapKind) (i : Instr) (q : ℕ) → Shared ctx s m → IsAt st.frame.piece m.place i q → current k ≡ st.frame.activation
       → IsTrapped ctx (trap_at library (record s { items = k; phase = Going }) kind) (trapped library (record s { items = k; phase = Going }) kind) (react (Trap kind) m (running m s.world))
-  both_trap s k m kind shared close =
+  both_trap s k m kind i q shared there close =
       let f = shared.standing.known in
+      let place = stands_inside ctx shared.program m.place i q there in
       let here : Option Activation = slice_get ctx.activations st.frame.activation in
       let at : slice_get s.activations (current k) ≡ here =
       ap (slice_get s.activations) close ∙ ap (λ (l : List Activation). slice_get l st.frame.activation) shared.activations_are in
@@ -111,9 +122,11 @@ module _ (ctx : Setting) where
         known = f.known;
         name = cc (at, f.owner, shared.loaded_are, f.named);
         procedure =
-            subst (HasName st.frame.own.procedures st.frame.procedure)
+            subst (IsNamed st.frame)
             (let same : procedure_name (loaded_at library loaded st.frame.number) st.frame.procedure ≡ procedure_name (loaded_at library s.loaded (owner_of (slice_get s.activations (current k)))) (procedure_of (slice_get s.activations (current k))) = cc (at, f.owner, f.called, shared.loaded_are) in same)
             f.entered;
+        low = place.low;
+        high = place.high;
       }
 
   -- a variable of the module at hand
@@ -163,22 +176,22 @@ touched h g i low high first second = record {
 
 module _ (ctx : Setting) where
   open ctx use {library, table, home as h, stack as st}
-  open frame_of ctx use {own}
+  open frame_of ctx use {own, piece}
   open laid_out ctx use {layout as l}
 
   -- the row of the instruction at hand
-  pub at_step : (m : State) → IsProgram ctx m.modules m.running m.marked → (i : Instr) (q : ℕ) → IsAt own.code m.place i q → mstep m ≡ act i q own m
+  pub at_step : (m : State) → IsProgram ctx m.modules m.running m.marked → (i : Instr) (q : ℕ) → IsAt piece m.place i q → mstep m ≡ act i q own m
   at_step m g i q e =
       yes m.marked (fetched m (module_at m.modules m.running)) (Limit limit.Stack, m) g.marked_is
       ∙ ap (fetched m) (ap (λ (ms : List Module). module_at ms m.running) g.table_is ∙ ap (module_at table) g.running_is ∙ g.known)
-      ∙ ap (performed m own) e
+      ∙ ap (performed m own) (stands_inside ctx g m.place i q e).there
 
   -- a row to which no jump leads
-  pub at_once : (row : Reach) (t : Mode) (p : ℕ) (stack : List ℕ) (c : ℕ) (a : Around) → row t p stack c a → AfterJumps own.code row t p stack c a
+  pub at_once : (row : Reach) (t : Mode) (p : ℕ) (stack : List ℕ) (c : ℕ) (a : Around) → row t p stack c a → AfterJumps piece row t p stack c a
   at_once row t p stack c a r = record { start = p; jumps = 0; later = c; way = refl; there = r; count = omega arith }
 
   -- one more jump before
-  pub rows_jump : (k : List Item) (t : Mode) (p to gap : ℕ) (stack : List ℕ) (c : ℕ) (a : Around) → IsAt own.code p (Jmp to) gap → to < length own.code
+  pub rows_jump : (k : List Item) (t : Mode) (p to gap : ℕ) (stack : List ℕ) (c : ℕ) (a : Around) → IsAt piece p (Jmp to) gap → to < length piece
       → Rows ctx k t to stack c a → Rows ctx k t p stack (suc c) a
   rows_jump [] t p to gap stack c a jump within r = absurd r
   rows_jump (i ∷ k) t p to gap stack c a jump within r =
@@ -260,7 +273,7 @@ module _ (ctx : Setting) where
   -- no step of the machine: an expression is to come, and then a hole
   pub operand_exact : (s : Source) (k : List Item) (m : State) (c : ℕ) (a : Around) → Shared ctx s m → (items : List Item) (e : Expression) (o : Hole)
       → next library (record s { items = items; phase = Going }) ≡ record s { items = Evaluate e ∷ Fill o ∷ k; phase = Going } → stutter (Evaluate e ∷ Fill o ∷ k) < stutter items → (middle : ℕ)
-      → ExpressionAt l own.code e m.place middle → length m.stack + depth e ≤ 16 → middle < length own.code → Waiting ctx (Fill o) (Rows ctx k) (ValueOf (kind_of e)) middle m.stack c a → Goes ctx s items m c
+      → ExpressionAt l piece e m.place middle → length m.stack + depth e ≤ 16 → middle < length piece → Waiting ctx (Fill o) (Rows ctx k) (ValueOf (kind_of e)) middle m.stack c a → Goes ctx s items m c
   operand_exact s k m c a shared items e o becomes lighter middle here shallow within row =
       goes_none_within s items m c c
       (subst (λ (y : Source). Lands ctx y.phase y (running m s.world) c) (sym becomes)
@@ -272,14 +285,14 @@ module _ (ctx : Setting) where
 
   pub operand_goes : (s : Source) (k : List Item) (m : State) (c : ℕ) (a : Around) → Shared ctx s m → (items : List Item) (e : Expression) (o : Hole)
       → next library (record s { items = items; phase = Going }) ≡ record s { items = Evaluate e ∷ Fill o ∷ k; phase = Going } → stutter (Evaluate e ∷ Fill o ∷ k) < stutter items → (middle : ℕ)
-      → ExpressionAt l own.code e m.place middle → length m.stack + depth e ≤ 16 → middle < length own.code → Waiting ctx (Fill o) (Rows ctx k) (ValueOf (kind_of e)) middle m.stack c a → Goes ctx s items m (c + 32)
+      → ExpressionAt l piece e m.place middle → length m.stack + depth e ≤ 16 → middle < length piece → Waiting ctx (Fill o) (Rows ctx k) (ValueOf (kind_of e)) middle m.stack c a → Goes ctx s items m (c + 32)
   operand_goes s k m c a shared items e o becomes lighter middle here shallow within row =
       goes_more s items m c (c + 32) (operand_exact s k m c a shared items e o becomes lighter middle here shallow within row) (omega arith)
 
   -- no step of the machine: a place is to come, and then a hole
   pub located_goes : (s : Source) (k : List Item) (m : State) (c : ℕ) (a : Around) → Shared ctx s m → (items : List Item) (d : Designator) (o : Hole)
       → next library (record s { items = items; phase = Going }) ≡ record s { items = PlaceOf d ∷ Fill o ∷ k; phase = Going } → stutter (PlaceOf d ∷ Fill o ∷ k) < stutter items → (found : ℕ)
-      → PlaceAt l own.code d m.place found → length m.stack + place_depth d ≤ 16 → Waiting ctx (Fill o) (Rows ctx k) (AtPlace d) found m.stack c a → Goes ctx s items m (c + 32)
+      → PlaceAt l piece d m.place found → length m.stack + place_depth d ≤ 16 → Waiting ctx (Fill o) (Rows ctx k) (AtPlace d) found m.stack c a → Goes ctx s items m (c + 32)
   located_goes s k m c a shared items d o becomes lighter found here shallow row =
       goes_none_within s items m (c + 32) c
       (subst (λ (y : Source). Lands ctx y.phase y (running m s.world) c) (sym becomes)
@@ -379,12 +392,12 @@ module _ (ctx : Setting) where
   goes_after s k m n budget rest e g less = goes_after_in s k m n h budget rest e (untouched h st.base st.limit) g less
 
   -- a jump of the machine
-  pub jumps_to : (m : State) (w : World) → IsProgram ctx m.modules m.running m.marked → (to gap : ℕ) → IsAt own.code m.place (Jmp to) gap → to < length own.code
+  pub jumps_to : (m : State) (w : World) → IsProgram ctx m.modules m.running m.marked → (to gap : ℕ) → IsAt piece m.place (Jmp to) gap → to < length piece
       → advanced (running m w) ≡ running (going m to m.stack) w
-  jumps_to m w g to gap e within = advances m w _ (at_step m g (Jmp to) gap e ∙ yes _ _ _ (lt-ltb to (length own.code) within))
+  jumps_to m w g to gap e within = advances m w _ (at_step m g (Jmp to) gap e ∙ yes _ _ _ (lt-ltb to (length own.code) (inside_own ctx g to within)))
 
   -- jumps, and then what goes from where they lead
-  pub jumped : (s : Source) (k : List Item) (j : ℕ) (m : State) (start budget rest : ℕ) → IsProgram ctx m.modules m.running m.marked → Jumps own.code j m.place start
+  pub jumped : (s : Source) (k : List Item) (j : ℕ) (m : State) (start budget rest : ℕ) → IsProgram ctx m.modules m.running m.marked → Jumps piece j m.place start
       → Goes ctx s k (going m start m.stack) rest → rest + j ≤ budget → Goes ctx s k m budget
   jumped s k zero m start budget rest g way goes less =
       goes_more s k m rest budget (subst (λ (p : ℕ). Goes ctx s k (going m p m.stack) rest) (sym way) goes) (omega (arith, less))

@@ -95,12 +95,16 @@ pub record Waits (w : Part) (rest : Reach) (c : ℕ) (a : Around) : Type 0 where
   pub then : rest (w.onto part).mode (w.onto part).place (w.onto part).stack c a
 
 -- A procedure or a body that runs or is to run: its activation, its module's number, its own number in there, its module's entry in the
--- table, its layout, the first word of its frame, and the place where its return goes on.
+-- table, where its code begins and what is behind it, the code by itself, its layout, the first word of its frame, and the place where its
+-- return goes on.
 pub record Frame : Type 0 where
   pub activation : ℕ
   pub number : ℕ
   pub procedure : ℕ
   pub own : Module
+  pub entry : ℕ
+  pub after : ℕ
+  pub piece : List ℕ
   pub layout : Layout
   pub at : ℕ
   pub back : ℕ
@@ -178,39 +182,39 @@ pub record AfterJumps (code : List ℕ) (row : Reach) (t : Mode) (p : ℕ) (stac
 
 -- what items need of the code of a frame alone
 module _ (frame : Frame) where
-  open frame use {own}
+  open frame use {own, piece}
   open laid frame use {layout as l}
 
   pub record DoPart (s : Statement) (p : ℕ) (stack : List ℕ) (a : Around) : Type 0 where
     pub empty : stack ≡ []
     pub end : ℕ
-    pub here : StatementAt l own.code (a.taken) a.exit s p end
-    pub within : end < length own.code
+    pub here : StatementAt l piece (a.taken) a.exit s p end
+    pub within : end < length piece
 
   -- an item in the midst of a statement, at a place of its row
-  pub record AmidPart (s : Statement) (a : Around) (to : (p q : ℕ) → StatementAt l own.code (a.taken) a.exit s p q → ℕ) (p : ℕ) : Type 0 where
+  pub record AmidPart (s : Statement) (a : Around) (to : (p q : ℕ) → StatementAt l piece (a.taken) a.exit s p q → ℕ) (p : ℕ) : Type 0 where
     pub from : ℕ
     pub end : ℕ
-    pub here : StatementAt l own.code (a.taken) a.exit s from end
-    pub within : end < length own.code
+    pub here : StatementAt l piece (a.taken) a.exit s from end
+    pub within : end < length piece
     pub at : p ≡ to from end here
 
   -- behind the first place that the statement names
-  pub record PlacedPart (s : Statement) (a : Around) (to : (p q : ℕ) → StatementAt l own.code (a.taken) a.exit s p q → ℕ) (p : ℕ) (stack : List ℕ) : Type 0 where
+  pub record PlacedPart (s : Statement) (a : Around) (to : (p q : ℕ) → StatementAt l piece (a.taken) a.exit s p q → ℕ) (p : ℕ) (stack : List ℕ) : Type 0 where
     pub empty : stack ≡ []
     pub amid : AmidPart s a to p
 
-  abbrev pub placed : (s : Statement) (a : Around) (to : (p q : ℕ) → StatementAt l own.code (a.taken) a.exit s p q → ℕ) (p : ℕ) (stack : List ℕ) (did : DoPart s p stack a) → PlacedPart s a to (to p did.end did.here) stack
+  abbrev pub placed : (s : Statement) (a : Around) (to : (p q : ℕ) → StatementAt l piece (a.taken) a.exit s p q → ℕ) (p : ℕ) (stack : List ℕ) (did : DoPart s p stack a) → PlacedPart s a to (to p did.end did.here) stack
   placed s a to p stack did = record { empty = did.empty; amid = record { from = p; end = did.end; here = did.here; within = did.within; at = refl } }
 
   pub record EvaluatePart (e : Expression) (p : ℕ) (stack : List ℕ) : Type 0 where
     pub end : ℕ
-    pub here : ExpressionAt l own.code e p end
+    pub here : ExpressionAt l piece e p end
     pub shallow : length stack + depth e ≤ 16
-    pub within : end < length own.code
+    pub within : end < length piece
 
   -- an item in the midst of an expression, behind an operand
-  pub record OperandPart (whole : Expression → Expression) (to : (e : Expression) (p q : ℕ) → ExpressionAt l own.code (whole e) p q → ℕ) (j : Kind) (p : ℕ) (stack : List ℕ) : Type 0 where
+  pub record OperandPart (whole : Expression → Expression) (to : (e : Expression) (p q : ℕ) → ExpressionAt l piece (whole e) p q → ℕ) (j : Kind) (p : ℕ) (stack : List ℕ) : Type 0 where
     pub of : Expression
     pub same : j ≡ kind_of of
     pub from : ℕ
@@ -219,7 +223,7 @@ module _ (frame : Frame) where
 
   pub record PlacePart (d : Designator) (p : ℕ) (stack : List ℕ) : Type 0 where
     pub end : ℕ
-    pub here : PlaceAt l own.code d p end
+    pub here : PlaceAt l piece d p end
     pub shallow : length stack + place_depth d ≤ 16
 
   -- the value at a place, or what a pointer there points to
@@ -245,18 +249,18 @@ module _ (frame : Frame) where
   pub record ServePart (r : request.Request) (count p : ℕ) : Type 0 where
     pub words : request_words r ≡ count
     pub end : ℕ
-    pub by : IsAt own.code p (Svc (request_number r)) end
-    pub within : end < length own.code
+    pub by : IsAt piece p (Svc (request_number r)) end
+    pub within : end < length piece
 
   -- the arguments of a request that are left, above so many words, and what follows the last one
   pub record LeftPart (r : request.Request) (done : List Bool) (left : List Argument) (count p : ℕ) : Type 0 where
     pub middle : ℕ
-    pub given : ArgumentsAt l own.code count left p middle
+    pub given : ArgumentsAt l piece count left p middle
     pub forms : TakesAll r done left
     pub serve : ServePart r (count + arguments_words left) middle
 
   -- behind an expression of a statement
-  pub record ValuePart (a : Around) (whole : Expression → Statement) (to : (e : Expression) (p q : ℕ) → StatementAt l own.code (a.taken) a.exit (whole e) p q → ℕ) (j : Kind) (p : ℕ) (stack : List ℕ) : Type 0 where
+  pub record ValuePart (a : Around) (whole : Expression → Statement) (to : (e : Expression) (p q : ℕ) → StatementAt l piece (a.taken) a.exit (whole e) p q → ℕ) (j : Kind) (p : ℕ) (stack : List ℕ) : Type 0 where
     pub of : Expression
     pub same : j ≡ kind_of of
     pub from : ℕ
@@ -264,7 +268,7 @@ module _ (frame : Frame) where
     pub at : p ≡ to of from did.end did.here
 
   -- behind the condition of a loop
-  pub record TestPart (s : Statement) (a : Around) (to : (p q : ℕ) → StatementAt l own.code (a.taken) a.exit s p q → ℕ) (j : Kind) (p : ℕ) (stack : List ℕ) : Type 0 where
+  pub record TestPart (s : Statement) (a : Around) (to : (p q : ℕ) → StatementAt l piece (a.taken) a.exit s p q → ℕ) (j : Kind) (p : ℕ) (stack : List ℕ) : Type 0 where
     pub same : j ≡ OfTruth
     pub from : ℕ
     pub did : DoPart s from stack a
@@ -278,15 +282,15 @@ module _ (frame : Frame) where
     pub top : ℕ
     pub end : ℕ
     pub is : a ≡ record { exit = Some end; taken = outer.taken }
-    pub back : IsAt own.code p (Jmp top) end
-    pub again : StatementAt l own.code (outer.taken) outer.exit (Loop body) top end
-    pub within : end < length own.code
+    pub back : IsAt piece p (Jmp top) end
+    pub again : StatementAt l piece (outer.taken) outer.exit (Loop body) top end
+    pub within : end < length piece
     pub then : rest Quiet end [] c outer
 
 -- what they need of the home too
 module _ (ctx : Setting) where
   open ctx use {home as h}
-  open frame_of ctx use {own}
+  open frame_of ctx use {own, piece}
   open laid_out ctx use {layout as l}
 
   abbrev active : Frame
@@ -355,8 +359,8 @@ module _ (ctx : Setting) where
     pub stack_is : stack ≡ word_of limit ∷ word_of first ∷ []
     pub count : left ≡ turns first limit step
     pub end : ℕ
-    pub turns : TurnsRow l own.code (a.taken) x k from step (BodyAt l own.code (3 + a.taken) a.exit body) p end
-    pub within : end < length own.code
+    pub turns : TurnsRow l piece (a.taken) x k from step (BodyAt l piece (3 + a.taken) a.exit body) p end
+    pub within : end < length piece
     pub then : rest Quiet end [] c a
 
   -- the words of a FOR, where those around it take so many: its value, the turns that are left, and its step
@@ -379,9 +383,9 @@ module _ (ctx : Setting) where
     pub fit : TurnsFit (base_of k) z step left
     pub turn : ℕ
     pub end : ℕ
-    pub round : RoundRow l own.code (outer.taken) x k step (BodyAt l own.code (3 + outer.taken) outer.exit body) turn end
+    pub round : RoundRow l piece (outer.taken) x k step (BodyAt l piece (3 + outer.taken) outer.exit body) turn end
     pub at : p ≡ round.end
-    pub within : end < length own.code
+    pub within : end < length piece
     pub then : rest Quiet end [] c outer
 
   abbrev pub TurnsTask : ℕ → Kind → ℤ → ℤ → ℕ → Statements → Reach → Reach
@@ -483,7 +487,7 @@ module _ (ctx : Setting) where
     pub takes : takes_value k j ≡ true
     pub on : DataOn done stack []
     pub tested : ℕ
-    pub test : InstrsAt own.code (test_code k j) p tested
+    pub test : InstrsAt piece (test_code k j) p tested
     pub rest : LeftPart active r (map is_array done ++ false ∷ []) left (1 + length stack) tested
 
   -- its place is there, an array
@@ -493,8 +497,8 @@ module _ (ctx : Setting) where
     pub on : DataOn done stack []
     pub start : ℕ
     pub last : ℕ
-    pub address : InstrsAt own.code (address_code (access_of l d)) p start
-    pub by : IsAt own.code start (Liw high) last
+    pub address : InstrsAt piece (address_code (access_of l d)) p start
+    pub by : IsAt piece start (Liw high) last
     pub rest : LeftPart active r (map is_array done ++ true ∷ []) left (2 + length stack) last
 
   pub record PassingPart (r : request.Request) (done : List Datum) (left : List Argument) (p : ℕ) (stack : List ℕ) : Type 0 where
@@ -556,14 +560,14 @@ module _ (ctx : Setting) where
     pub callers : ctx.stack.callers ≡ []
     pub bodies : ctx.stack.bodies ≡ []
     pub end : ℕ
-    pub leave : IsAt own.code p Rtn end
+    pub leave : IsAt piece p Rtn end
 
   -- the body that is to run next begins by its ENT, and then come its items
   pub record NextBody (b : Frame) (rest : Reach) (c : ℕ) : Type 0 where
     pub body : active.procedure ≡ 0
     pub low : b.at ≤ active.at
     pub start : ℕ
-    pub enter : IsAt b.own.code (body_entry b.own) (Ent b.layout.frame) start
+    pub enter : IsAt b.piece (body_entry b.own) (Ent b.layout.frame) start
     pub then : rest Quiet start [] c outside
 
   -- the frame under this one goes on where the mark says, with its own FORs around
@@ -607,7 +611,7 @@ module _ (ctx : Setting) where
     pub alone : a ≡ outside
     pub free : active.layout.held ≡ []
     pub end : ℕ
-    pub leave : IsAt own.code p Rtn end
+    pub leave : IsAt piece p Rtn end
     pub behind : Behind k rest c ctx.stack.callers ctx.stack.bodies
 
   -- the row of an item, with what is left behind it
@@ -621,7 +625,7 @@ module _ (ctx : Setting) where
 -- Items that are left; the last is an end. Jumps may lead to the code of each.
 abbrev pub RowsOf : List Item → Setting → Reach
 RowsOf [] ctx = λ t p stack c a. ⊥
-RowsOf (i ∷ k) ctx = AfterJumps ctx.stack.frame.own.code (ItemWaits ctx i k (RowsOf k))
+RowsOf (i ∷ k) ctx = AfterJumps ctx.stack.frame.piece (ItemWaits ctx i k (RowsOf k))
 
 abbrev pub Rows : Setting → List Item → Reach
 Rows ctx k = RowsOf k ctx

@@ -37,19 +37,22 @@ module _ {A B : Type 0} (f : A → B) where
   said_map h = said_after _ _ h (said_value refl)
 
 -- ---- walks
-module _ {S X : Type 0} (f : S → X → S × List Row) (x : X) where
-  said_snoc : (s : S) (xs : List X) {r t u : Option Fault} {a b : S} → Said (walk f s xs) r a t → Said (f a x) t b u → Said (walk f s (xs ++ x ∷ [])) r b u
+module _ {S X : Type 0} (f : S → X → S × List Row) where
+  pub said_one : (x : X) (a : S) {r s : Option Fault} {b : S} → Said (f a x) r b s → Said (walk f a (x ∷ [])) r b s
+  said_one x a h = said_after (f a x) (λ s. (s, [])) h (said_value refl)
+
+  -- one list behind another
+  pub said_joined : (ys : List X) (s : S) (xs : List X) {r t u : Option Fault} {a b : S} → Said (walk f s xs) r a t → Said (walk f a ys) t b u → Said (walk f s (xs ++ ys)) r b u
   unfolding after tell
-  said_snoc s [] {r = r} {t = t} {u = u} {a = a} {b = b} h g =
-      said_after (f s x) (λ s. (s, [])) (subst (λ t. Said (f s x) t b u) h.told (subst (λ a. Said (f a x) t b u) h.value g)) (said_value refl)
-  said_snoc s (y ∷ ys) {r = r} {t = t} {u = u} {a = a} {b = b} h g =
-      said_after (f s y) (λ s. walk f s (ys ++ x ∷ [])) (record { value = refl; told = refl })
-      (said_snoc (f s y).0 ys {r = tell r (f s y).1} (record { value = h.value; told = h.told ∙ tell_append r (f s y).1 (walk f (f s y).0 ys).1 }) g)
+  said_joined ys s [] {r = r} {t = t} {u = u} {a = a} {b = b} h g = subst (λ t. Said (walk f s ys) t b u) h.told (subst (λ a. Said (walk f a ys) t b u) h.value g)
+  said_joined ys s (y ∷ xs) {r = r} {t = t} {u = u} {a = a} {b = b} h g =
+      said_after (f s y) (λ s. walk f s (xs ++ ys)) (record { value = refl; told = refl })
+      (said_joined ys (f s y).0 xs {r = tell r (f s y).1} (record { value = h.value; told = h.told ∙ tell_append r (f s y).1 (walk f (f s y).0 xs).1 }) g)
 
 pub said_more : {S X : Type 0} (f : S → X → S × List Row) (s : S) (xs : List X) (i : ℕ) (x : X) {r t u : Option Fault} {a b : S} → i < length xs → x ≡ get_or xs i x
     → Said (walk f s (take i xs)) r a t → Said (f a x) t b u → Said (walk f s (take (i + 1) xs)) r b u
-said_more f s xs i x {r = r} {u = u} {b = b} lt is h g =
-    subst (λ z. Said (walk f s z) r b u) (sym (take_more xs i x lt ∙ ap (λ z. take i xs ++ z ∷ []) (sym is))) (said_snoc f x s (take i xs) h g)
+said_more f s xs i x {r = r} {u = u} {a = a} {b = b} lt is h g =
+    subst (λ z. Said (walk f s z) r b u) (sym (take_more xs i x lt ∙ ap (λ z. take i xs ++ z ∷ []) (sym is))) (said_joined f (x ∷ []) s (take i xs) h (said_one f x a g))
 
 pub said_all : {S X : Type 0} (f : S → X → S × List Row) (s : S) (xs : List X) (i : ℕ) {r t : Option Fault} {a : S} → length xs ≤ i → Said (walk f s (take i xs)) r a t → Said (walk f s xs) r a t
 said_all f s xs i {r = r} {t = t} {a = a} le h = subst (λ z. Said (walk f s z) r a t) (take_all i xs le) h

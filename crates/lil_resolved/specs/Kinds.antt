@@ -1,5 +1,5 @@
 -- The sorts of values that scalar variables, parameters and expressions have, the scalars themselves, and the shapes of what lies in variables.
-use Rattle.std.specs.Prelude.{ℕ, zero, suc, ◌+◌, ◌*◌, Bool, true, false, List, [], ◌∷◌, Option, Some, None, slice_get, nat_lt, if◌then◌else◌, ◌-◌, ◌==◌, ℤ, pos, not, ◌&&◌, nat_le, negsuc, ◌+ℤ◌, ◌-ℤ◌, int_lt, ◌||◌}
+use Rattle.std.specs.Prelude.{◌≡◌, ◌<◌, length, drop, ℕ, zero, suc, ◌+◌, ◌*◌, Bool, true, false, List, [], ◌∷◌, Option, Some, None, slice_get, nat_lt, if◌then◌else◌, ◌-◌, ◌==◌, ℤ, pos, not, ◌&&◌, nat_le, negsuc, ◌+ℤ◌, ◌-ℤ◌, int_lt, ◌||◌}
 use Rattle.lil_base.specs.{Words.{in_type, between, is_zero, word_of, Whole, Cardinal, Integer}, Sets.{has, set_word}}
 use Rattle.lil_resolved.specs.Members.{no_members}
 use Rattle.lil_base.specs.Words as type
@@ -338,16 +338,36 @@ abbrev pub count_of : Shape → ℕ
 count_of (Row n t) = n
 count_of _ = 0
 
--- what the names of a body reach: what its pointers point to, by the numbers of their types, the module's variables, and the records of the
--- WITHs around, the innermost first
+-- What the names of statements reach: what pointers point to, by the numbers of their types, the module's variables, and the records of the
+-- WITHs around, the innermost first; for each procedure of the module, from number 1, those around it by their numbers, the innermost first;
+-- and the procedure at hand with those around it likewise, of which the body of the module has none.
 pub record Scope : Type 0 where
   pub targets : List Shape
   pub variables : List Shape
   pub held : List Shape
+  pub procedures : List (List ℕ)
+  pub chain : List ℕ
 
-abbrev pub outermost : (targets variables : List Shape) → Scope
-outermost targets variables = record { targets = targets; variables = variables; held = [] }
+abbrev pub outermost : (targets variables : List Shape) (procedures : List (List ℕ)) (chain : List ℕ) → Scope
+outermost targets variables procedures chain = record { targets = targets; variables = variables; held = []; procedures = procedures; chain = chain }
 
 -- inside of a WITH too
 abbrev pub with_held : Scope → Shape → Scope
 with_held ts t = record ts { held = t ∷ ts.held }
+
+-- ---- calls
+-- what is known of a procedure by its number, from 1
+abbrev pub procedure_by : {A : Type 0} → List A → ℕ → Option A
+procedure_by xs zero = None
+procedure_by xs (suc n) = slice_get xs n
+
+-- the procedures around one that is declared so many levels out of that at hand; those of the module are 0 levels out
+abbrev pub Declared : List ℕ → ℕ → List ℕ → Type 0
+Declared chain zero around = around ≡ []
+Declared chain (suc n) around = (n < length chain) × (around ≡ drop n chain)
+
+-- a procedure may be called by its number, where it is declared so many levels out
+pub record MayCall (ts : Scope) (p n : ℕ) : Type 0 where
+  pub around : List ℕ
+  pub known : procedure_by ts.procedures p ≡ Some around
+  pub declared : Declared ts.chain n around

@@ -1,8 +1,9 @@
 -- Resolved modules: each name is replaced by the thing that it means, and each constant expression by its value.
-use Rattle.std.specs.Prelude.{ℕ, zero, suc, ℤ, Bool, true, false, List, [], ◌∷◌, Option, None, slice_get}
+use Rattle.std.specs.Prelude.{ℕ, ℤ, Bool, true, false, List, [], ◌∷◌, Option, map}
 use Rattle.lil_base.specs.{Words.{Whole, Cardinal}, declared.operator.{OneOp.OneOp, TwoOp.{TwoOp, TheVariants.{Equal, Unequal, Less, AtMost, Greater, AtLeast, In, Plus, Minus, Or, Times, Slash, Div, Mod, And}}}}
 use Rattle.lil_base.specs.declared.request.Request as request
-use Rattle.lil_resolved.specs.Kinds.{Kind, OfWhole, OfTruth, OfCharacter, OfSet, base_of, compared_as, Scalar, Shape, Scope, part_at, shape_at, element_of}
+use Rattle.lil_resolved.specs.Kinds.{Kind, OfWhole, OfTruth, OfCharacter, OfSet, base_of, compared_as, Scalar, Shape, Scope, outermost, part_at, shape_at, element_of}
+pub use Rattle.lil_resolved.specs.Kinds.{procedure_by}
 
 -- standard functions of one value
 pub data Function : Type 0 where
@@ -114,10 +115,8 @@ pub record Procedure : Type 0 where
   pub around : List ℕ
   pub body : Statements
 
--- a procedure by its number, from 1
-abbrev pub procedure_by : List Procedure → ℕ → Option Procedure
-procedure_by ps zero = None
-procedure_by ps (suc n) = slice_get ps n
+abbrev pub around_of : Procedure → List ℕ
+around_of p = p.around
 
 pub record Resolved : Type 0 where
   pub name : List ℕ
@@ -129,6 +128,10 @@ pub record Resolved : Type 0 where
   -- the procedures, from number 1; the body has number 0
   pub procedures : List Procedure
   pub body : Statements
+
+-- what names reach in the statements of a procedure, by it and those around it, and in the body, where there are none
+abbrev pub scope_in : Resolved → List ℕ → Scope
+scope_in m chain = outermost m.targets m.variables (map around_of m.procedures) chain
 
 -- an operator that compares
 abbrev pub is_relation : TwoOp → Bool

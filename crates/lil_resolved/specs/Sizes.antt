@@ -55,9 +55,12 @@ abbrev mutual
 abbrev pub procedure_strings : Procedure → List ℕ
 procedure_strings p = body_strings p.body
 
+abbrev pub procedures_strings : List Procedure → List ℕ
+procedures_strings ps = flat_map procedure_strings ps
+
 -- those of a module: of its body, and then of its procedures by their numbers
 abbrev pub module_strings : Resolved → List ℕ
-module_strings m = body_strings m.body ++ flat_map procedure_strings m.procedures
+module_strings m = body_strings m.body ++ procedures_strings m.procedures
 
 -- ---- the words that a body takes: those of the expression stack, and those of its frame
 
@@ -268,9 +271,16 @@ abbrev mutual
   arms_size (Else body) = body_size body + 3
   arms_size (Arm labels body rest) = body_size body + 3 + 6 * length labels + arms_size rest
 
--- with the instructions that enter and leave the body
+-- with the instructions that enter and leave a body
+abbrev pub framed_size : Statements → ℕ
+framed_size ss = 4 + body_size ss
+
+abbrev pub procedures_size : List Procedure → ℕ
+procedures_size [] = 0
+procedures_size (p ∷ ps) = framed_size p.body + procedures_size ps
+
 abbrev pub code_size : Resolved → ℕ
-code_size m = 4 + body_size m.body
+code_size m = framed_size m.body + procedures_size m.procedures
 
 -- code, and the words of strings behind the variables
 pub record IsSmall (m : Resolved) (strings : List ℕ) : Type 0 where

@@ -6,8 +6,8 @@ use Rattle.lil_base.specs.declared.operator.OneOp.TheVariants as one
 use Rattle.lil_base.specs.declared.request.Request as request
 use Rattle.lil_base.specs.declared.request.Request.TheVariants as r
 pub use Rattle.lil_resolved.specs.Kinds.{is_base, is_ordinal, is_set, is_whole, is_plain, is_element, alike, takes_value, stores_value}
-use Rattle.lil_resolved.specs.Kinds.{Objects, Workspaces, Kind, OfWhole, OfTruth, OfCharacter, OfSet, OfPointer, base_of, numbers, within, is_literal, scalar_of, ordinal_of, Shape, Word, Row, Scope, with_held, outermost, shape_at, is_there, count_of}
-use Rattle.lil_resolved.specs.Resolved.{Designator, Variable, Held, Field, Element, Follow, Function, Abs, Cap, Chr, Odd, Ord, Val, Expression, Constant, Taken, One, Two, Short, Apply, With, WithSpan, Label, Argument, ByValue, OfArray, OfText, Statement, Assign, Copy, Text, Change, Member, New, Allocate, Request, If, Case, While, Repeat, Loop, Exit, Halt, Return, Call, For, Inside, Statements, Empty, Then, Arms, NoElse, Else, Arm, Resolved, kind_of, right_kind, counted_as, shape_of}
+use Rattle.lil_resolved.specs.Kinds.{Objects, Workspaces, Kind, OfWhole, OfTruth, OfCharacter, OfSet, OfPointer, base_of, numbers, within, is_literal, scalar_of, ordinal_of, Shape, Word, Row, Scope, with_held, MayCall, shape_at, is_there, count_of}
+use Rattle.lil_resolved.specs.Resolved.{Designator, Variable, Held, Field, Element, Follow, Function, Abs, Cap, Chr, Odd, Ord, Val, Expression, Constant, Taken, One, Two, Short, Apply, With, WithSpan, Label, Argument, ByValue, OfArray, OfText, Statement, Assign, Copy, Text, Change, Member, New, Allocate, Request, If, Case, While, Repeat, Loop, Exit, Halt, Return, Call, For, Inside, Statements, Empty, Then, Arms, NoElse, Else, Arm, Procedure, Resolved, procedure_by, scope_in, kind_of, right_kind, counted_as, shape_of}
 use Rattle.lil_resolved.specs.Sizes.{place_depth, depth}
 
 -- an operator takes operands of this kind, and IN a left one
@@ -212,7 +212,7 @@ abbrev mutual
   IsSoundStatement ts looping Exit = looping ≡ true
   IsSoundStatement ts looping Halt = Unit {0}
   IsSoundStatement ts looping Return = Unit {0}
-  IsSoundStatement ts looping (Call p n) = ⊥
+  IsSoundStatement ts looping (Call p n) = MayCall ts p n
   IsSoundStatement ts looping (For x k a b step body) = IsSoundVariable ts x k × IsSoundValue ts a k × IsSoundWhole ts b (base_of k) × IsStep step × IsSoundBody ts looping body
   IsSoundStatement ts looping (Inside d body) = IsSoundHeld ts d × IsSoundBody (with_held ts (shape_of ts d)) looping body
 
@@ -225,5 +225,8 @@ abbrev mutual
   AreSoundArms ts looping k (Else body) = IsSoundBody ts looping body
   AreSoundArms ts looping k (Arm labels body rest) = AreSoundLabels k labels × IsSoundBody ts looping body × AreSoundArms ts looping k rest
 
-abbrev pub IsSound : Resolved → Type 0
-IsSound m = IsSoundBody (outermost m.targets m.variables) false m.body
+-- the statements of the body and of each procedure, by its number, of which there are at most 250
+pub record IsSound (m : Resolved) : Type 0 where
+  pub few : length m.procedures ≤ 250
+  pub body : IsSoundBody (scope_in m []) false m.body
+  pub procedures : (p : ℕ) (its : Procedure) → procedure_by m.procedures p ≡ Some its → IsSoundBody (scope_in m (p ∷ its.around)) false its.body

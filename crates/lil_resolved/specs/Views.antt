@@ -6,8 +6,8 @@ use Rattle.lil_resolved.specs.declared.resolved.RExpr.TheFolds.{map-RExpr, map-R
 use Rattle.lil_resolved.specs.declared.resolved.{RExpr.TheViews.{roll-RExpr, roll-RMember, roll-RSelector}, ROperation.{ROperation, out-ROperation}, RPlace.{RPlace, out-RPlace}, RSelector.{RSelector, out-RSelector}, RMember.{RMember, out-RMember}, Membership.Membership, Allocation.Allocation, RKind.RKind}
 use Rattle.lil_resolved.specs.{Kinds.{Kind, Objects, Workspaces, OfWhole, OfTruth, OfCharacter, OfEnumeration, OfSet, OfPointer, OfRange, compared_as, scalar_of, SetOf, Shape, Absent, Word, Row, all_words, offsets_from, shape_at, fields_of, words}, declared.resolved.RStmt.{RStmt, TheOpen.{RStmt-F, RArm-F, RGuard-F}}}
 use Rattle.lil_resolved.specs.declared.resolved.{RStmt.{TheFolds.{map-RStmt, fold-roll-RStmt, fold-roll-RArm, fold-roll-RGuard, fold-RStmt, fold-RArm, fold-RGuard}, TheViews.roll-RStmt}, RGuard.RGuard, RArm.RArm, RBase.RBase, RVariable.RVariable, RFunction.RFunction, Direction.Direction, RArgument.RArgument}
-use Rattle.lil_resolved.specs.Resolved.{Designator, Field, Element, Follow, Expression, Constant, Taken, Apply, With, WithSpan, Assign, Copy, Text, Change, Member, New, Allocate, Request, If, Case, While, Repeat, Loop, Exit, Halt, Return, For, Inside, Statements, Empty, Then, Arms, Arm, kind_of, Variable, Held, Function, Abs, Cap, Chr, Odd, Ord, Val, One, Two, Short, Argument, ByValue, OfArray, OfText, Label, NoElse, Else, Resolved}
-use Rattle.lil_resolved.specs.{Members.no_members, declared.{resolved.{RRange.RRange, RRoot.RRoot, RDeclared.RDeclared, RLabel.RLabel, RModule.RModule}, shapes.{RField.RField, RShape.RShape}}}
+use Rattle.lil_resolved.specs.Resolved.{Designator, Field, Element, Follow, Expression, Constant, Taken, Apply, With, WithSpan, Assign, Copy, Text, Change, Member, New, Allocate, Request, If, Case, While, Repeat, Loop, Exit, Halt, Return, Call, For, Inside, Statements, Empty, Then, Arms, Arm, kind_of, Variable, Held, Function, Abs, Cap, Chr, Odd, Ord, Val, One, Two, Short, Argument, ByValue, OfArray, OfText, Label, NoElse, Else, Procedure, Resolved}
+use Rattle.lil_resolved.specs.{Members.no_members, declared.{resolved.{RRange.RRange, RRoot.RRoot, RDeclared.RDeclared, RLabel.RLabel, RProcedure.RProcedure, RModule.RModule}, shapes.{RField.RField, RShape.RShape}}}
 use Rattle.lil_resolved.specs.declared.resolved.RExpr.TheVariants as e
 use Rattle.lil_resolved.specs.declared.resolved.RExpr.TheOpen as x
 use Rattle.lil_resolved.specs.declared.resolved.RSelector.TheVariants as l
@@ -202,6 +202,7 @@ statement_layer (o.Loop ss) = Then (Loop (all_of ss)) Empty
 statement_layer o.Exit = Then Exit Empty
 statement_layer o.Halt = Then Halt Empty
 statement_layer o.Return = Then Return Empty
+statement_layer (o.Call p n) = Then (Call p n) Empty
 statement_layer (o.For v a b step ss) = Then (For v.number (variable_kind v) (expression_of a) (expression_of b) step (all_of ss)) Empty
 statement_layer (o.With p ss) = Then (Inside (place_of p) (all_of ss)) Empty
 
@@ -280,8 +281,11 @@ offset_of v = v.offset
 abbrev pub shape_declared : List RShape → RDeclared → Shape
 shape_declared ts v = shape_at (shapes_of ts) v.shape
 
+abbrev pub procedure_of : RProcedure → Procedure
+procedure_of p = record { name = p.name; around = p.around; body = statements_of p.body }
+
 abbrev pub module_of : RModule → Resolved
-module_of m = record { name = m.name; targets = map (shape_at (shapes_of m.shapes)) m.targets; names = map name_of m.variables; variables = map (shape_declared m.shapes) m.variables; procedures = []; body = statements_of m.body }
+module_of m = record { name = m.name; targets = map (shape_at (shapes_of m.shapes)) m.targets; names = map name_of m.variables; variables = map (shape_declared m.shapes) m.variables; procedures = map procedure_of m.procedures; body = statements_of m.body }
 
 -- the words of a module's shapes and variables are counted
 pub record IsMeasured (m : RModule) : Type 0 where
@@ -403,6 +407,9 @@ halt_is = ap statement_of (sym s.rolls-Halt) ∙ rolled o.Halt
 
 pub return_is : statement_of s.Return ≡ Then Return Empty
 return_is = ap statement_of (sym s.rolls-Return) ∙ rolled o.Return
+
+pub call_is : (p n : ℕ) → statement_of (s.Call p n) ≡ Then (Call p n) Empty
+call_is p n = ap statement_of (sym (s.rolls-Call p n)) ∙ rolled (o.Call p n)
 
 pub for_is : (v : RVariable) (a b : RExpr) (step : ℤ) (ss : List RStmt)
     → statement_of (s.For v a b step ss) ≡ Then (For v.number (variable_kind v) (expression_of a) (expression_of b) step (statements_of ss)) Empty

@@ -142,7 +142,8 @@ pub enum RArgument {
 /// goes to an array of characters; a set has its place, and the kind of what joins or leaves it; NEW has the place of the
 /// pointer, and the number of its type; ALLOCATE and DEALLOCATE have the place of the address, and the number of words. IF has its conditions in
 /// order, a CASE or an IF without ELSE has none, FOR has its variable, its first value, its last and its step, and WITH
-/// its record.
+/// its record. A call has its procedure's number, from 1, and how many levels out that is declared; those of the module are
+/// declared 0 levels out.
 #[cycle(resolved)]
 #[derive(Drop)]
 pub enum RStmt {
@@ -162,6 +163,7 @@ pub enum RStmt {
     Exit,
     Halt,
     Return,
+    Call(u8, u8),
     For(RVariable, RExpr, RExpr, i16, Items<RStmt>),
     With(RPlace, Items<RStmt>),
 }
@@ -197,9 +199,17 @@ pub struct RDeclared {
     pub shape: usize,
 }
 
+/// A procedure of a module: its name, the numbers of the procedures around it, the innermost first, and its statements.
+#[derive(Drop)]
+pub struct RProcedure {
+    pub name: Name,
+    pub around: Items<u8>,
+    pub body: Items<RStmt>,
+}
+
 /// A resolved program module: its name, the shapes of its types by their numbers, by the same numbers the shapes to which its
-/// pointer types point, its variables, how many words they take, and its
-/// statements.
+/// pointer types point, its variables, how many words they take, its procedures by their numbers from 1, and the statements
+/// of its body.
 #[derive(Drop)]
 pub struct RModule {
     pub name: Name,
@@ -207,6 +217,7 @@ pub struct RModule {
     pub targets: Items<usize>,
     pub variables: Items<RDeclared>,
     pub words: u16,
+    pub procedures: Items<RProcedure>,
     pub body: Items<RStmt>,
 }
 

@@ -1,28 +1,29 @@
 -- Calls of told arguments have values, and are sound statements.
 use Rattle.std.proofs.Common.{◌≡◌, ℕ, suc, ◌+◌, Bool, true, false, not, List, [], ◌∷◌, length, map, slice_get, Option, Some, None, if◌then◌else◌, refl, sym, ap, subst, ◌∙◌, arith, true≢false}
-use Rattle.std.specs.Prelude.{◌==◌, ◌&&◌, is_some}
-use Rattle.std.proofs.lemmas.{Bool.{and_left, and_right, false_from_ne_true}, List.length_push}
+use Rattle.std.specs.Prelude.{◌==◌, ◌&&◌, ◌<◌, nat_lt, is_some}
+use Rattle.std.proofs.lemmas.{Bool.{and_left, and_right, false_from_ne_true, Decides.nat_tests}, List.length_push}
 use Rattle.lil_base.specs.{Lists.joined, declared.fault.Place.Place}
 use Rattle.lil_base.specs.declared.request.Request as requests
 use Rattle.lil_base.specs.declared.request.Request.TheVariants as q
 use Rattle.lil_types.specs.{Types.{Table, integer, cardinal, char, address}, declared.table.Parameter.Parameter}
 use Rattle.lil_declared.specs.declared.{declared.RVar.RVar, standard.Resident.Resident}
 use Rattle.lil_declared.specs.declared.standard.Resident.TheVariants as resident
-use Rattle.lil_resolved.specs.{Kinds.{Scope, is_ordinal}, Sound.{Single, request_parameters, parameter_of, AreSoundArguments}, Views.{argument_of, base_view, allocate_is, request_is}}
+use Rattle.lil_resolved.specs.{Kinds.{Scope, MayCall, is_ordinal}, Sound.{Single, request_parameters, parameter_of, AreSoundArguments}, Views.{argument_of, base_view, allocate_is, request_is, call_is}}
 use Rattle.lil_resolved.specs.declared.resolved.{Allocation.{Allocation, TheVariants.{Takes, GivesBack}}, RArgument.RArgument, RBase.RBase, RStmt.RStmt}
 use Rattle.lil_resolved.specs.declared.resolved.RArgument.TheVariants as given
 use Rattle.lil_resolved.specs.declared.resolved.RBase.TheVariants as b
+use Rattle.lil_resolved.specs.declared.resolved.RStmt.TheVariants as statement
 use Rattle.lil_shapes.specs.{BaseLaws.same_sort, Bases.{plain, kind_at}, ListLaws.AllFine, Pointers.lies_at}
 use Rattle.lil_scope.specs.Built.{resident_built}
 use Rattle.lil_report.specs.Told.{Row, after}
 use Rattle.lil_kinds.specs.{Forms.{is_routine, arity, parameter, parameters}, declared.found.Found.Found}
 use Rattle.lil_forms.specs.{declared.arguments.Handed.Handed, Properties.Property, Scopes.{Fits, both_left}, Soundness.soundness, StatementSound.{StatementSound, made_sound}, Statements.{nothing_handed, handed_over, requested, allocation, called}}
-use Rattle.lil_call.specs.{declared.{call.{Argument.Argument, Callee.Callee}, passing.Passed.Passed, routines.Invoked.Invoked}, Calls.{is_callable, heading_node, depth_node, passed_if, routine_mean, call_statement, no_call, of_variable, of_resident, value_of, statement_of, call_node, statement_node}}
+use Rattle.lil_call.specs.{declared.{call.{Argument.Argument, Callee.Callee}, passing.Passed.Passed, routines.Invoked.Invoked}, Calls.{is_callable, heading_node, depth_node, passed_if, routine_mean, own_call, call_statement, no_call, of_procedure, of_variable, of_resident, value_of, statement_of, call_node, statement_node}}
 use Rattle.lil_call.specs.Passing.{all_have_values, nothing_passed, with_argument, argument_node, argument_by, argument_step, arguments_mean}
 use Rattle.lil_call.specs.declared.call.Argument.TheVariants as argument
 use Rattle.lil_call.specs.declared.call.Callee.TheVariants as callee
-use Rattle.lil_right_type.specs.{Found.{IsFound, value, place, signature}, Parts.routine_is, Right.{Right, IsThere, is_so, after_right}, Typed.kept_if, Types.IsTold}
-use Rattle.lil_right_call.specs.{Functions.function_right, Given.{IsTaken, string_there, value_there, address_there}, Procedures.procedure_right, Told.{ArgumentTold, CalleeTold}}
+use Rattle.lil_right_type.specs.{Found.{IsFound, value, place, signature}, Parts.routine_is, Right.{Right, IsThere, IsAny, is_so, after_right}, Typed.kept_if, Types.IsTold}
+use Rattle.lil_right_call.specs.{Functions.function_right, Given.{IsTaken, string_there, value_there, address_there}, Procedures.procedure_right, Told.{ArgumentTold, CalleeTold, Calls}}
 
 module _ {t : Table} {vs : List RVar} {around : List ℕ} (P : Property t vs around) (told : IsTold t) where
   -- ---- the arguments of resident procedures
@@ -98,19 +99,36 @@ module _ {t : Table} {vs : List RVar} {around : List ℕ} (P : Property t vs aro
         (arguments_right s (signature r) (nothing_passed 1) xs (λ i. ap (slice_get (parameters t s)) (omega arith) ∙ ap (λ ps. slice_get ps i) is) (sym (ap length is) ∙ h.2) refl all)
         (λ e g clear. kept_if (IsHanded r) _ e (λ i. g.0 i && not (clear.0 i)) g.1)))
 
-    -- ---- calls that have values
-    value_right : (c : Callee) (xs : List Argument) → CalleeTold t c → AllFine (ArgumentTold P) xs → Right (IsThere (IsFound P)) (value_of t p c xs)
-    unfolding no_call
-    value_right (callee.Procedure s) xs h all = absurd h
-    value_right (callee.Variable s d) xs h all = uncalled (IsThere (IsFound P)) true (of_variable s d) xs _ (no_routine true s h)
-    value_right (callee.Resident r s) xs h all = uncalled (IsThere (IsFound P)) true (of_resident r s) xs _ (and_right (is_routine t s) _ (ap is_some h.1))
-    value_right (callee.Standard of) xs h all = function_right P told p of xs all
-    value_right callee.Other xs h all = λ clear. absurd (true≢false clear.0)
+    -- a procedure without parameters has no arguments
+    none_passed : Right (IsThere IsAny) (depth_node p (nothing_passed 1))
+    unfolding depth_node
+    none_passed clear = tt
 
-  pub call_node_right : (p : Place) (c : Option Callee) (xs : List Argument) → IsThere (CalleeTold t) c → AllFine (ArgumentTold P) xs → Right (IsThere (IsFound P)) (call_node t p c xs)
+    own_passed : (s n levels : ℕ) (ys : List Argument) → length ys ≡ 0 → Right (IsThere IsAny) (passed_if t p (of_procedure s n levels) ys true)
+    own_passed s n levels [] none =
+        after_right (λ (e : Passed). e ≡ nothing_passed 1) (IsThere IsAny) (arguments_mean t false s (nothing_passed 1) []) (depth_node p) (λ clear. refl)
+        (λ e same. subst (λ (e : Passed). Right (IsThere IsAny) (depth_node p e)) (sym same) none_passed)
+    own_passed s n levels (y ∷ ys) none = absurd (omega (arith, none))
+
+    own_right : (s n levels : ℕ) (xs : List Argument) → parameters t s ≡ [] → Right (IsThere IsAny) (routine_mean t p false (of_procedure s n levels) xs)
+    unfolding arity
+    own_right s n levels xs is =
+        after_right (λ c. (c ≡ true) × (is_callable t false s ≡ true) × (arity t s ≡ length xs)) (IsThere IsAny) _ (passed_if t p (of_procedure s n levels) xs) (heading_right false s (length xs)) (λ c h.
+        subst (λ c. Right (IsThere IsAny) (passed_if t p (of_procedure s n levels) xs c)) (sym h.0) (own_passed s n levels xs (sym h.2 ∙ ap length is)))
+
+    -- ---- calls that have values
+    value_right : (R : ℕ → ℕ → Type 0) (c : Callee) (xs : List Argument) → CalleeTold t R c → AllFine (ArgumentTold P) xs → Right (IsThere (IsFound P)) (value_of t p c xs)
+    unfolding no_call
+    value_right R (callee.Procedure s n levels) xs h all = uncalled (IsThere (IsFound P)) true (of_procedure s n levels) xs _ (and_right (is_routine t s) _ (ap is_some h.0.1))
+    value_right R (callee.Variable s d) xs h all = uncalled (IsThere (IsFound P)) true (of_variable s d) xs _ (no_routine true s h)
+    value_right R (callee.Resident r s) xs h all = uncalled (IsThere (IsFound P)) true (of_resident r s) xs _ (and_right (is_routine t s) _ (ap is_some h.1))
+    value_right R (callee.Standard of) xs h all = function_right P told p of xs all
+    value_right R callee.Other xs h all = λ clear. absurd (true≢false clear.0)
+
+  pub call_node_right : (R : ℕ → ℕ → Type 0) (p : Place) (c : Option Callee) (xs : List Argument) → IsThere (CalleeTold t R) c → AllFine (ArgumentTold P) xs → Right (IsThere (IsFound P)) (call_node t p c xs)
   unfolding call_node
-  call_node_right p None xs h all = absurd h
-  call_node_right p (Some c) xs h all = subst (λ b. Right (IsThere (IsFound P)) (if b then value_of t p c xs else (None, []))) (sym (have_values xs all)) (value_right p c xs h all)
+  call_node_right R p None xs h all = absurd h
+  call_node_right R p (Some c) xs h all = subst (λ b. Right (IsThere (IsFound P)) (if b then value_of t p c xs else (None, []))) (sym (have_values xs all)) (value_right p R c xs h all)
 
 -- ---- calls that are statements
 module _ {t : Table} {vs : List RVar} {around : List ℕ} {ts : Scope} (fits : Fits t vs around ts) (told : IsTold t) (looping : Bool) where
@@ -157,20 +175,30 @@ module _ {t : Table} {vs : List RVar} {around : List ℕ} {ts : Scope} (fits : F
   resident_called resident.Deallocate h is all = allocation_called GivesBack h all
   resident_called _ h is all = cc
 
-  statement_right : (p : Place) (c : Callee) (xs : List Argument) → CalleeTold t c → AllFine (ArgumentTold P) xs → Right (IsThere (StatementSound ts looping)) (statement_of t p c xs)
+  own_called : (n levels : ℕ) → (n < 255) × ((levels < 256) × MayCall ts (n + 1) levels) → IsDone (own_call n levels)
+  own_called n levels h =
+      let fits : (nat_lt n 255 && nat_lt levels 256) ≡ true = grind (arith, nat_tests, h.0, h.1.0) in
+      subst (λ c. IsDone (if c then Some (statement.Call (n + 1) levels) else None)) (sym fits) (made_sound ts looping _ _ (call_is (n + 1) levels) h.1.1)
+
+  statement_right : (R : ℕ → ℕ → Type 0) → Calls R ts → (p : Place) (c : Callee) (xs : List Argument) → CalleeTold t R c → AllFine (ArgumentTold P) xs → Right (IsThere (StatementSound ts looping)) (statement_of t p c xs)
   unfolding no_call
-  statement_right p (callee.Procedure s) xs h all = absurd h
-  statement_right p (callee.Variable s d) xs h all = uncalled P told p IsDone false (of_variable s d) xs _ (no_routine P told p false s h)
-  statement_right p (callee.Resident r s) xs h all =
+  statement_right R calls p (callee.Procedure s n levels) xs h all =
+      after_right (IsThere IsAny) IsDone (routine_mean t p false (of_procedure s n levels) xs) _ (own_right P told p s n levels xs h.0.0) by
+    where
+      by : (o : Option Passed) → IsThere IsAny o → Right IsDone (call_statement (of_procedure s n levels) o, [])
+      by None j = absurd j
+      by (Some e) j = λ clear. own_called n levels (calls n levels h.1)
+  statement_right R calls p (callee.Variable s d) xs h all = uncalled P told p IsDone false (of_variable s d) xs _ (no_routine P told p false s h)
+  statement_right R calls p (callee.Resident r s) xs h all =
       after_right (IsThere (IsHanded P told r)) IsDone (routine_mean t p false (of_resident r s) xs) _ (passed_right P told p r s xs h.0 all) by
     where
       by : (o : Option Passed) → IsThere (IsHanded P told r) o → Right IsDone (call_statement (of_resident r s) o, [])
       by None j = absurd j
       by (Some e) j = λ clear. resident_called r e.handed h.2 j
-  statement_right p (callee.Standard of) xs h all = procedure_right fits told looping p of xs all
-  statement_right p callee.Other xs h all = λ clear. absurd (true≢false clear.0)
+  statement_right R calls p (callee.Standard of) xs h all = procedure_right fits told looping p of xs all
+  statement_right R calls p callee.Other xs h all = λ clear. absurd (true≢false clear.0)
 
-  pub statement_node_right : (p : Place) (c : Option Callee) (xs : List Argument) → IsThere (CalleeTold t) c → AllFine (ArgumentTold P) xs → Right (IsThere (StatementSound ts looping)) (statement_node t p c xs)
+  pub statement_node_right : (R : ℕ → ℕ → Type 0) → Calls R ts → (p : Place) (c : Option Callee) (xs : List Argument) → IsThere (CalleeTold t R) c → AllFine (ArgumentTold P) xs → Right (IsThere (StatementSound ts looping)) (statement_node t p c xs)
   unfolding statement_node
-  statement_node_right p None xs h all = absurd h
-  statement_node_right p (Some c) xs h all = subst (λ b. Right IsDone (if b then statement_of t p c xs else (None, []))) (sym (have_values P told xs all)) (statement_right p c xs h all)
+  statement_node_right R calls p None xs h all = absurd h
+  statement_node_right R calls p (Some c) xs h all = subst (λ b. Right IsDone (if b then statement_of t p c xs else (None, []))) (sym (have_values P told xs all)) (statement_right R calls p c xs h all)

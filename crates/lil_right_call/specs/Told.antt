@@ -1,9 +1,10 @@
 -- What is told of arguments and of what is called.
-use Rattle.std.proofs.Common.{◌≡◌, ◌⊎◌, inl, inr, ℕ, true, false, List, [], ◌∷◌, Some, None, refl}
+use Rattle.std.proofs.Common.{◌≡◌, ◌⊎◌, inl, inr, ℕ, ◌+◌, ◌<◌, true, false, List, [], ◌∷◌, Some, None, refl}
 use Rattle.lil_types.specs.Types.{Table}
 use Rattle.lil_declared.specs.declared.declared.RVar.{RVar}
 use Rattle.lil_scope.specs.Built.{standard_built, resident_built}
 use Rattle.lil_kinds.specs.Forms.{parameters, result}
+use Rattle.lil_resolved.specs.Kinds.{Scope, MayCall}
 use Rattle.lil_shapes.specs.{ListLaws.AllFine, Pointers.lies_at}
 use Rattle.lil_forms.specs.Properties.{Property}
 use Rattle.lil_call.specs.{Passing.all_have_values, declared.call.{Argument.Argument, Callee.Callee}}
@@ -41,10 +42,14 @@ module _ {t : Table} {vs : List RVar} {around : List ℕ} (P : Property t vs aro
       by (argument.Type p (Some s)) h (inl all) = inl (h, all)
       by (argument.Type p (Some s)) h (inr none) = inr none
 
--- no procedure of the text is called, and of the others what is built. Resident procedures are proper ones
-abbrev pub CalleeTold : Table → Callee → Type 0
-CalleeTold t (callee.Procedure s) = ⊥
-CalleeTold t (callee.Variable s d) = lies_at t s ≡ true
-CalleeTold t (callee.Resident r s) = (parameters t s ≡ signature r) × (result t s ≡ None) × (resident_built r ≡ true)
-CalleeTold t (callee.Standard of) = standard_built of ≡ true
-CalleeTold t callee.Other = Unit {0}
+-- procedures of the text are called that have no parameters, if names reach them, and of the others what is built. All are proper ones
+abbrev pub CalleeTold : Table → (ℕ → ℕ → Type 0) → Callee → Type 0
+CalleeTold t R (callee.Procedure s n levels) = ((parameters t s ≡ []) × (result t s ≡ None)) × R n levels
+CalleeTold t R (callee.Variable s d) = lies_at t s ≡ true
+CalleeTold t R (callee.Resident r s) = (parameters t s ≡ signature r) × (result t s ≡ None) × (resident_built r ≡ true)
+CalleeTold t R (callee.Standard of) = standard_built of ≡ true
+CalleeTold t R callee.Other = Unit {0}
+
+-- what names reach may be called, by numbers from 1, and both numbers are bytes
+abbrev pub Calls : (ℕ → ℕ → Type 0) → Scope → Type 0
+Calls R ts = (n levels : ℕ) → R n levels → (n < 255) × ((levels < 256) × MayCall ts (n + 1) levels)

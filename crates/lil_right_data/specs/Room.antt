@@ -1,10 +1,10 @@
 -- The variables and the strings of a module have room, where their words are few by its types.
-use Rattle.std.proofs.Common.{◌≡◌, ℕ, ◌+◌, ◌≤◌, true, List, [], ◌++◌, length, map, sum_by, flat_map, Some, None, if◌then◌else◌, refl, sym, ap, subst, ◌∙◌, append-nil, arith}
+use Rattle.std.proofs.Common.{◌≡◌, ℕ, ◌+◌, ◌≤◌, true, List, ◌++◌, length, map, sum_by, Option, Some, None, if◌then◌else◌, refl, sym, ap, subst, ◌∙◌, length-append, arith}
 use Rattle.lil_types.specs.Types.{Table}
 use Rattle.lil_types.specs.Types as types
 use Rattle.lil_declared.specs.declared.declared.RVar.{RVar}
-use Rattle.lil_resolved.specs.{Kinds.{Shape, words, all_words}, Resolved.Resolved, Sizes.{body_strings, procedure_strings, module_strings}, Views.statements_of, declared.resolved.RStmt.RStmt}
-use Rattle.lil_layout.specs.{Data.{words_by, variable_words, data_words}, Strings.body_words}
+use Rattle.lil_resolved.specs.{Kinds.{Shape, words, all_words}, Resolved.Procedure, Sizes.{body_strings, procedures_strings, module_strings}, Views.statements_of, declared.resolved.RStmt.RStmt}
+use Rattle.lil_layout.specs.{Data.{words_by, variable_words, text_words, data_words}}
 use Rattle.lil_shapes.specs.{ListLaws.AllFine, Measured.variable_name, Pointers.{targets, lies_at}, Shaping.{all_some, there, lying, variables_by, shapes}}
 use Rattle.lil_right_type.specs.{Types.IsTold, Words.AreMeasured}
 use Rattle.lil_right_data.specs.Shapes.{AreSized, Fits, fine_all, all_there, within_so, shapes_there, lies_shape}
@@ -12,9 +12,6 @@ use Rattle.lil_right_data.specs.Shapes.{AreSized, Fits, fine_all, all_there, wit
 -- something lies in a variable of the module itself
 abbrev pub IsLying : Table → RVar → Type 0
 IsLying t v = (lies_at t v.sort ≡ true) × (v.owner ≡ None)
-
-pub body_words_is : (m : Resolved) (ss : List RStmt) → m.procedures ≡ [] → m.body ≡ statements_of ss → length (module_strings m) ≡ body_words ss
-body_words_is m ss none is = (λ j. length (body_strings (is j) ++ flat_map procedure_strings (none j))) ∙ ap length (append-nil (body_strings (statements_of ss)))
 
 module _ (t : Table) (told : IsTold t) (measured : AreMeasured t) (vs : List RVar) (lie : AllFine (IsLying t) vs) where
   pub variables_there : sum_by (variable_words t) vs ≤ 32000 → (ts : List Shape) × (variables_by (shapes t) vs ≡ Some ts) × (all_words ts ≤ sum_by (variable_words t) vs)
@@ -30,10 +27,8 @@ module _ (t : Table) (told : IsTold t) (measured : AreMeasured t) (vs : List RVa
           let x = lies_shape t told ss.0 ss.1 v.sort h.0 in
           (x.0, ap there x.1 ∙ ap (λ c. if c then Some x.0 else None) x.2, subst (λ o. words x.0 ≤ words_by (types.words t v.sort) o) (sym h.1) (ss.2 v.sort x.0 x.1))
 
-  -- the module of these variables and of statements
-  pub room : (n : List ℕ) (of ts : List Shape) (ss : List RStmt) → all_words ts ≤ sum_by (variable_words t) vs → data_words t vs [] (Some ss) ≤ 32000
-      → all_words ts + length (module_strings (record { name = n; targets = targets t of; names = map variable_name vs; variables = ts; procedures = []; body = statements_of ss })) ≤ 32000
+  -- the module of these variables, of procedures with these bodies, and of statements
+  pub room : (n : List ℕ) (of ts : List Shape) (ps : List Procedure) (bodies : List (Option (List RStmt))) (ss : List RStmt) → all_words ts ≤ sum_by (variable_words t) vs → length (procedures_strings ps) ≡ sum_by text_words bodies → data_words t vs bodies (Some ss) ≤ 32000
+      → all_words ts + length (module_strings (record { name = n; targets = targets t of; names = map variable_name vs; variables = ts; procedures = ps; body = statements_of ss })) ≤ 32000
   unfolding data_words
-  room n of ts ss low few =
-      let m : Resolved = record { name = n; targets = targets t of; names = map variable_name vs; variables = ts; procedures = []; body = statements_of ss } in
-      omega (arith, few, low, body_words_is m ss refl refl)
+  room n of ts ps bodies ss low strings few = omega (arith, few, low, strings, length-append (body_strings (statements_of ss)) (procedures_strings ps))

@@ -1,5 +1,5 @@
 -- Constants in whose declarations no test finds a fault are told.
-use Rattle.std.proofs.Common.{◌≡◌, ℕ, true, List, [], ◌∷◌, ◌++◌, Option, Some, None, sym, subst, arith, true≢false}
+use Rattle.std.proofs.Common.{◌≡◌, ℕ, true, List, [], ◌∷◌, ◌++◌, Option, Some, None, sym, subst, ◌∙◌, arith, true≢false}
 use Rattle.lil_text.specs.declared.tree.Ident.{Ident}
 use Rattle.lil_language.specs.declared.unit.Constant.{Constant}
 use Rattle.lil_report.specs.Told.{after}
@@ -13,11 +13,11 @@ use Rattle.lil_shapes.specs.ShapeSound.{earlier}
 use Rattle.lil_forms.specs.Properties.{nothing}
 use Rattle.lil_right_type.specs.{Right.{Right, IsThere, after_right, is_so}, Found.{KindTold, GoesWith, IsKnown}}
 use Rattle.lil_right_value.specs.Values.{asked_right}
-use Rattle.lil_right_sort.specs.{Growth.{Few, Grown, last_there, IsThing, Declared, bound_declared, more_declared}, Simple.Follows}
+use Rattle.lil_right_sort.specs.{Growth.{Few, Grown, last_there, IsThing, Declared, bound_declared, more_declared}, Simple.{Later, Follows}}
 
 -- what is declared behind e, where no test finds a fault
 abbrev pub Behind : Env → Env → Type 0
-Behind e f = Grown e.types f.types × (Few f.types → Declared f)
+Behind e f = Later e f × (Few f.types → Declared f)
 
 -- and a thing that may be bound there
 abbrev pub IsMeant : Env → Env → Thing → Type 0
@@ -36,25 +36,34 @@ module _ (e : Env) (h : Declared e) where
 
   kind_meant : (d : ℕ) (kind : Kind) (f : Form) → is_constant kind ≡ true → KindTold e.types kind → GoesWith (nothing e.types e.variables e.withs) d kind f → let m = if_constant e f kind in Declared m.0 × IsThing m.0 m.1
   unfolding is_constant
-  kind_meant d (k.Whole z) f is told goes = (h, ((told, tt), tt))
-  kind_meant d (k.Scalar s w) f is told goes = (h, ((told, tt), tt))
-  kind_meant d (k.Chars c) (form.Text cs) is told goes = (text_declared cs, ((told, (cs, last_there e.texts cs, goes)), tt))
+  kind_meant d (k.Whole z) f is told goes = (h, ((told, tt), (tt, tt)))
+  kind_meant d (k.Scalar s w) f is told goes = (h, ((told, tt), (tt, tt)))
+  kind_meant d (k.Chars c) (form.Text cs) is told goes = (text_declared cs, ((told, (cs, last_there e.texts cs, goes)), (tt, tt)))
   kind_meant d (k.Chars c) _ is told goes = absurd goes
   kind_meant d k.Nil f is told goes = absurd (true≢false (sym is))
   kind_meant d (k.Of s) f is told goes = absurd (true≢false (sym is))
   kind_meant d (k.Open s) f is told goes = absurd told
   kind_meant d (k.Routine s) f is told goes = absurd told
 
-same_types : (e : Env) (f : Form) (kind : Kind) → (if_constant e f kind).0.types ≡ e.types
-unfolding is_constant
-same_types e f kind = grind arith
+module _ (e : Env) (f : Form) (kind : Kind) where
+  same_types : (if_constant e f kind).0.types ≡ e.types
+  unfolding is_constant
+  same_types = grind arith
+
+  same_procedures : (if_constant e f kind).0.procedures ≡ e.procedures
+  unfolding is_constant
+  same_procedures = grind arith
+
+  same_procedure : (if_constant e f kind).0.procedure ≡ e.procedure
+  unfolding is_constant
+  same_procedure = grind arith
 
 node_meant : (e f : Env) → Behind e f → (o : Option Found) → (Few f.types → IsThere (IsKnown f) o) → Right (ConstantMeant e) (constant_node f o)
 unfolding constant_node
 node_meant e f b None there clear = (b.0, λ few. absurd (there few))
 node_meant e f b (Some a) there clear =
     let same = same_types f a.form a.kind in (
-      subst (Grown e.types) (sym same) b.0,
+      (subst (Grown e.types) (sym same) b.0.0, (same_procedures f a.form a.kind ∙ b.0.1.0, same_procedure f a.form a.kind ∙ b.0.1.1)),
       λ few.
           let before : Few f.types = subst Few same few in
           let a_told = there before in

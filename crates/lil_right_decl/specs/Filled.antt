@@ -4,15 +4,15 @@ use Rattle.std.specs.Prelude.{nat_lt}
 use Rattle.std.proofs.lemmas.{Bool.Decides.nat_tests, List.length_push, Option.{none-some, same_Some, slice_get_within}}
 use Rattle.lil_types.specs.{Types.{Table, entry}, Adding.{next, next_facts, number_by, with_facts, added, added_number}, declared.table.{Origin.Origin, Parameter.Parameter, TypeEntry.TypeEntry, TypeForm.{TypeForm, TheVariants.Procedure}}}
 use Rattle.lil_types.specs.Types as types
-use Rattle.lil_declared.specs.declared.{declared.RVar.RVar, standard.Resident.Resident}
+use Rattle.lil_declared.specs.declared.{declared.{RProc.RProc, RVar.RVar}, standard.Resident.Resident}
 use Rattle.lil_declared.specs.declared.standard.Resident.TheVariants as resident
-use Rattle.lil_scope.specs.{Names.with_blocks, declared.{env.Env.Env, thing.Thing.Thing}}
+use Rattle.lil_scope.specs.{Names.{Names, with_blocks}, declared.{env.Env.Env, thing.Thing.Thing}}
 use Rattle.lil_scope.specs.declared.thing.Thing.TheVariants as thing
 use Rattle.lil_resolved.specs.declared.resolved.RBase.TheVariants as b
 use Rattle.lil_shapes.specs.ListLaws.{AllFine}
 use Rattle.lil_interfaces.specs.{declared.surface.{Interface.Interface, Exported.Exported}, Moving.{moved, moved_parameter, moved_kind, moved_form, seen_by, with_type, with_types, with_name, with_names}, Standard.known, Imports.filled}
-use Rattle.lil_right_type.specs.{Types.IsTold, Words.AreMeasured, Found.{signature, ThingTold}}
-use Rattle.lil_right_sort.specs.Growth.{all_then, Few, few_before, Grown, grown_same, grown_more, grown_kept, PartsTold, added_grown, added_entry, added_told, entry_below, entry_shape, shape_parameters, IsIn, IsThing, Declared, declared_kept, bound_declared}
+use Rattle.lil_right_type.specs.{Types.IsTold, Words.AreMeasured, Found.{signature, ThingTold}, Homes.{Allowed, bound_many}}
+use Rattle.lil_right_sort.specs.Growth.{all_then, Few, few_before, Grown, grown_same, grown_more, grown_kept, PartsTold, added_grown, added_entry, added_told, entry_below, entry_shape, shape_parameters, IsIn, Declared, declared_kept, bound_declared}
 use Rattle.lil_right_decl.specs.Shown.{IsHeading, IsResident, Shown}
 
 abbrev pub AreTold : Table → Type 0
@@ -70,6 +70,17 @@ types_entered m s t (e ∷ es) all room =
         subst (λ n. At (with_types m s u es) n x) same (rest.at i x is)
 
 -- ---- names
+-- what is no procedure of a text, and no module
+abbrev IsPlain : Thing → Type 0
+IsPlain (thing.Procedure r) = ⊥
+IsPlain (thing.Module b) = ⊥
+IsPlain _ = Unit {0}
+
+plain_allowed : (count : ℕ) (ps : List RProc) (x : Thing) → IsPlain x → Allowed count ps x
+plain_allowed count ps (thing.Procedure r) h = h
+plain_allowed count ps (thing.Module b) h = absurd h
+plain_allowed count ps _ h = tt
+
 standard_signature : (s : ℕ) (r : Resident) → map (moved_parameter s) (signature r) ≡ signature r
 standard_signature s resident.Read = refl
 standard_signature s _ = refl
@@ -77,27 +88,36 @@ standard_signature s _ = refl
 module _ (s : ℕ) (types u : Table) (vs : List RVar) (texts : List (List ℕ)) (told : IsTold u)
     (at : (i : ℕ) (e : TypeEntry) → slice_get types i ≡ Some e → (x : TypeEntry) × (entry u (moved s (i + 16)) ≡ Some x) × (x.form ≡ moved_form s e.form)) where
   abbrev IsSo : Thing → Type 0
-  IsSo x = ThingTold u vs texts x × IsIn u x
+  IsSo x = ThingTold u vs texts x × (IsIn u x × IsPlain x)
 
   thing_told : (x : Thing) → IsResident types x → IsSo (seen_by s true x)
-  thing_told (thing.Constant kind) h = subst (λ kind. IsSo (thing.Constant (moved_kind s kind))) (sym h) (((b.Character, refl, refl, refl), tt), tt)
-  thing_told (thing.Type n) (inl h) = subst (λ n. IsSo (thing.Type (moved s n))) (sym h) (λ so. refl, tt)
-  thing_told (thing.Type n) (inr h) = subst (λ n. IsSo (thing.Type (moved s n))) (sym h) (λ so. absurd (true≢false (sym so)), tt)
+  thing_told (thing.Constant kind) h = subst (λ kind. IsSo (thing.Constant (moved_kind s kind))) (sym h) (((b.Character, refl, refl, refl), tt), (tt, tt))
+  thing_told (thing.Type n) (inl h) = subst (λ n. IsSo (thing.Type (moved s n))) (sym h) (λ so. refl, (tt, tt))
+  thing_told (thing.Type n) (inr h) = subst (λ n. IsSo (thing.Type (moved s n))) (sym h) (λ so. absurd (true≢false (sym so)), (tt, tt))
   thing_told (thing.Resident r n) h =
       let x = at h.0 h.2.0 h.2.1 in
       let p = shape_parameters u (moved s (h.0 + 16)) (map (moved_parameter s) (signature r)) None (entry_shape u told (moved s (h.0 + 16)) x.0 x.1 ∙ ap Some (x.2 ∙ ap (moved_form s) h.2.2)) in
-      subst (λ n. IsSo (thing.Resident r (moved s n))) (sym h.1) ((p.0 ∙ standard_signature s r, p.1), entry_below u (moved s (h.0 + 16)) x.0 x.1)
+      subst (λ n. IsSo (thing.Resident r (moved s n))) (sym h.1) ((p.0 ∙ standard_signature s r, p.1), (entry_below u (moved s (h.0 + 16)) x.0 x.1, tt))
   thing_told _ h = absurd h
 
 -- ---- an environment with them
 moved_there : (s i : ℕ) → s + (i + 16) < 4294967295 → moved s (i + 16) ≡ s + (i + 16)
 moved_there s i h = grind (arith, nat_tests)
 
+abbrev IsShown : Env → Thing → Type 0
+IsShown e x = ThingTold e.types e.variables e.texts x × (IsIn e.types x × IsPlain x)
+
 module _ (s b : ℕ) where
-  names_told : (e : Env) (xs : List Exported) → AllFine (λ (x : Exported). IsThing e (seen_by s x.shown x.what)) xs → Declared e → Declared (with_blocks e (with_names s b e.scopes.blocks xs))
+  names_told : (e : Env) (xs : List Exported) → AllFine (λ (x : Exported). IsShown e (seen_by s x.shown x.what)) xs → Declared e → Declared (with_blocks e (with_names s b e.scopes.blocks xs))
   unfolding with_name
   names_told e [] all h = h
-  names_told e (x ∷ xs) all h = names_told (with_blocks e (with_name s b e.scopes.blocks x)) xs all.1 (bound_declared e h b x.name (known (seen_by s x.shown x.what)) all.0)
+  names_told e (x ∷ xs) all h = names_told (with_blocks e (with_name s b e.scopes.blocks x)) xs all.1 (bound_declared e h b x.name (known (seen_by s x.shown x.what)) (all.0.0, (all.0.1.0, plain_allowed (length e.scopes.blocks) e.procedures (seen_by s x.shown x.what) all.0.1.1)))
+
+-- there are as many blocks
+pub names_many : (s b : ℕ) (bs : List Names) (xs : List Exported) → length (with_names s b bs xs) ≡ length bs
+unfolding with_name
+names_many s b bs [] = refl
+names_many s b bs (x ∷ xs) = names_many s b (with_name s b bs x) xs ∙ bound_many bs b x.name (known (seen_by s x.shown x.what))
 
 -- an interface that is entered, where the table has room
 module _ (m b : ℕ) (e : Env) (i : Interface) (shown : Shown i) (room : length e.types + length i.types < 4294967279) where
@@ -122,5 +142,5 @@ module _ (m b : ℕ) (e : Env) (i : Interface) (shown : Shown i) (room : length 
           let before : Declared e = h (few_before e.types u into.grown few) in
           let told : AreTold u = into.told few (before.told.types, before.told.words) in
           names_told (length e.types) b (record e { types = u }) i.names
-          (all_then _ _ (λ (x : Exported) is. subst (λ c. IsThing (record e { types = u }) (seen_by (length e.types) c x.what)) (sym is.0) (thing_told (length e.types) i.types u e.variables e.texts told.0 at x.what is.1)) i.names shown.names)
+          (all_then _ _ (λ (x : Exported) is. subst (λ c. IsShown (record e { types = u }) (seen_by (length e.types) c x.what)) (sym is.0) (thing_told (length e.types) i.types u e.variables e.texts told.0 at x.what is.1)) i.names shown.names)
           (declared_kept e before u (grown_kept e.types u into.grown) told.0 told.1)

@@ -1,10 +1,12 @@
 -- What is declared behind imports in which no test finds a fault is told.
-use Rattle.std.proofs.Common.{◌≡◌, ℕ, ◌+◌, ◌≤◌, true, false, List, [], ◌∷◌, ◌++◌, length, Option, Some, None, IfSome, refl, subst, arith, true≢false}
+use Rattle.std.proofs.Common.{◌≡◌, ℕ, zero, suc, ◌+◌, ◌<◌, ◌≤◌, inl, inr, Bool, true, false, List, [], ◌∷◌, ◌++◌, length, slice_get, Option, Some, None, IfSome, if◌then◌else◌, refl, sym, ap, subst, ◌∙◌, arith, true≢false}
+use Rattle.std.proofs.lemmas.{List.length_push, Option.{none-some, same_Some}}
 use Rattle.std.specs.Prelude.{is_none, not, pos}
 use Rattle.lil_text.specs.declared.tree.Ident.{Ident}
 use Rattle.lil_language.specs.declared.unit.Import.{Import}
 use Rattle.lil_types.specs.{Types.{entry, boolean}, declared.table.TypeEntry.TypeEntry}
-use Rattle.lil_scope.specs.{Built.built, Names.{member, with_block}, declared.env.Env.Env, declared.thing.{Entry.Entry, Thing.Thing}}
+use Rattle.lil_declared.specs.declared.declared.RProc.{RProc}
+use Rattle.lil_scope.specs.{Built.built, Names.{Names, same, entry_in, thing_of, look_in, block_at, bound_at, member, with_block}, declared.env.Env.Env, declared.thing.{Entry.Entry, Thing.Thing}}
 use Rattle.lil_scope.specs.Names as names
 use Rattle.lil_scope.specs.declared.thing.Thing.TheVariants as thing
 use Rattle.lil_resolved.specs.declared.resolved.RBase.TheVariants as b
@@ -12,10 +14,11 @@ use Rattle.lil_shapes.specs.{ListLaws.AllFine, Operators.has_number}
 use Rattle.lil_interfaces.specs.{declared.{importing.{Entered.Entered, Imported.Imported, Source.Source}, surface.Interface.Interface}, Interfaces.{named, residents, with_shown, with_procedure}}
 use Rattle.lil_interfaces.specs.{Imports.{block_of, next_import, filled, entered_by, entered, take_node, found_node, is_hidden, thing_or_broken, name_step, module_step, import_by, import_step, imports_mean, nothing_imported}, Standard.{standard_names, start}}
 use Rattle.lil_interfaces.specs.declared.importing.Source.TheVariants as from
-use Rattle.lil_right_type.specs.{Right.{Right, after_right}, Found.{HasWord, ThingTold}}
+use Rattle.lil_forms.specs.Scopes.{fine_more}
+use Rattle.lil_right_type.specs.{Right.{Right, after_right}, Found.{HasWord, ThingTold}, Homes.{Allowed, bound_many}}
 use Rattle.lil_right_sort.specs.{Growth.{all_then, Few, IsIn, IsThing, Declared, bound_declared, begun_declared}, Simple.walk_keeps}
 use Rattle.lil_right_value.specs.Names.{member_is}
-use Rattle.lil_right_decl.specs.{Filled.filled_told, Room.{types_left, named_fine, none_more, entered_once}, Shown.{Shown, all_shown}}
+use Rattle.lil_right_decl.specs.{Filled.{names_many, filled_told}, Room.{types_left, named_fine, none_more, entered_once}, Shown.{Shown, all_shown}}
 
 -- ---- before the imports
 no_types : (n : ℕ) (e : TypeEntry) → entry [] n ≡ Some e → ⊥
@@ -33,25 +36,77 @@ truth_told w h = (b.Truth, refl, refl, h)
 standard_told : AllFine (λ x. StandardTold x × StandardIn x) standard_names
 standard_told = search (truth_told) parts 40 fits 4000
 
+-- none of them is a procedure of a text, or a module
+abbrev IsPlain : Thing → Type 0
+IsPlain (thing.Procedure r) = ⊥
+IsPlain (thing.Module b) = ⊥
+IsPlain _ = Unit {0}
+
+abbrev IsOther : Thing → Type 0
+IsOther (thing.Procedure r) = Unit {0}
+IsOther (thing.Module b) = Unit {0}
+IsOther _ = ⊥
+
+standard_plain : AllFine (λ (x : List ℕ × Entry). IsPlain x.1.thing) standard_names
+standard_plain = search parts 40 fits 4000
+
+plain_standard : (xs : Names) (m : List ℕ) → AllFine (λ (x : List ℕ × Entry). IsPlain x.1.thing) xs → IfSome (look_in xs m) IsPlain
+plain_standard [] m h = tt
+plain_standard (x ∷ xs) m h = by (same m x.0) (plain_standard xs m h.1)
+  where
+    by : (c : Bool) → IfSome (look_in xs m) IsPlain → IfSome (thing_of (if c then Some x.1 else entry_in xs m)) IsPlain
+    by true rest = h.0
+    by false rest = rest
+
+none_standard : (x : Thing) (b : ℕ) (m : List ℕ) → IsOther x → look_in (block_at start.scopes.blocks b) m ≡ Some x → ⊥
+unfolding start
+none_standard x zero m other is = by x other (subst (λ (o : Option Thing). IfSome o IsPlain) is (plain_standard standard_names m standard_plain))
+  where
+    by : (x : Thing) → IsOther x → IsPlain x → ⊥
+    by (thing.Procedure r) other h = h
+    by (thing.Module k) other h = h
+    by _ other h = other
+none_standard x (suc zero) m other is = none-some x is
+none_standard x (suc (suc b)) m other is = none-some x is
+
 start_told : Declared start
 unfolding start
 start_told = record {
-  told = record { types = λ n e is. absurd (no_types n e is); words = λ n e is. absurd (no_types n e is); names = (all_then (λ x. StandardTold x × StandardIn x) StandardTold (λ x h. h.0) standard_names standard_told, (tt, tt)) };
+  told = record {
+    types = λ n e is. absurd (no_types n e is);
+    words = λ n e is. absurd (no_types n e is);
+    names = (all_then (λ x. StandardTold x × StandardIn x) StandardTold (λ x h. h.0) standard_names standard_told, (tt, tt));
+    homed = record {
+      two = omega arith;
+      names = λ b m r is. absurd (none_standard (thing.Procedure r) b m tt is);
+      modules = λ b m k is. absurd (none_standard (thing.Module k) b m tt is);
+      blocks = λ n q is. absurd (none-some q is);
+      apart = λ n m q p is. absurd (none-some q is);
+      few = omega arith;
+    };
+    stands = record {
+      path = record { level_is = refl; blocks = (inl refl, tt); own = inl (refl, refl); low = tt };
+      few = omega arith;
+      there = tt;
+    };
+  };
   residents = (all_then (λ x. StandardTold x × StandardIn x) StandardIn (λ x h. h.1) standard_names standard_told, (tt, tt));
   variables = tt;
-  level = refl;
-  procedure = refl;
+  proper = tt;
 }
 
 -- ---- the steps of imports
 -- what is told, and there is room for the types of the interfaces that aren't entered yet
-record IsImported (s : Imported) : Type 0 where
+pub record IsImported (s : Imported) : Type 0 where
   pub told : Few s.env.types → Declared s.env
   pub room : length s.env.types + types_left residents s.modules ≤ 16
+  pub procedures : s.env.procedures ≡ []
+  pub procedure : s.env.procedure ≡ None
+  pub blocks : AllFine (λ (m : Entered). m.block < length s.env.scopes.blocks) s.modules
 
 nothing : IsImported nothing_imported
 unfolding start with_shown with_procedure
-nothing = record { told = λ few. start_told; room = omega arith }
+nothing = record { told = λ few. start_told; room = omega arith; procedures = refl; procedure = refl; blocks = tt }
 
 -- a thing that may be bound where this is declared
 abbrev IsTaken : Imported → Thing → Type 0
@@ -72,32 +127,71 @@ module _ (s : Imported) (n : List ℕ) (new : block_of s.modules n ≡ None) (h 
   told : Few s.env.types → Declared (with_block s.env)
   told few = begun_declared s.env (h.told few)
 
+  -- all blocks of modules are among the blocks
+  blocks_more : (count : ℕ) → count ≡ length s.env.scopes.blocks + 1 → AllFine (λ (x : Entered). x.block < count) (s.modules ++ m ∷ [])
+  unfolding m
+  blocks_more count is = fine_more (λ (x : Entered). x.block < count) s.modules m (all_then (λ (x : Entered). x.block < length s.env.scopes.blocks) (λ (x : Entered). x.block < count) (λ x less. omega (arith, less, is)) s.modules h.blocks) (omega (arith, is))
+
+  count_is : (o : Option Interface) → length (with_module s n o).env.scopes.blocks ≡ length s.env.scopes.blocks + 1
+  unfolding filled
+  count_is None = length_push s.env.scopes.blocks []
+  count_is (Some i) = names_many (length s.env.types) (length s.env.scopes.blocks) (s.env.scopes.blocks ++ [] ∷ []) i.names ∙ length_push s.env.scopes.blocks []
+
   module_told : (o : Option Interface) → named residents n ≡ o → IsImported (with_module s n o)
   unfolding filled m
-  module_told None is = record { told = told; room = let fewer = none_more m residents s.modules in let room = h.room in omega arith }
+  module_told None is = record { told = told; room = let fewer = none_more m residents s.modules in let room = h.room in omega arith; procedures = h.procedures; procedure = h.procedure; blocks = blocks_more _ (count_is None) }
   module_told (Some i) is =
       let shown : Shown i = named_fine Shown residents n i all_shown is in
       let once : length i.types + types_left residents (s.modules ++ m ∷ []) ≤ types_left residents s.modules = entered_once m residents s.modules i is new in
       let room = h.room in
       let f = filled_told (next_import s.modules) (length s.env.scopes.blocks) (with_block s.env) i shown (omega arith) told in
       let count = f.1 in
-      record { told = f.2; room = omega arith }
+      record { told = f.2; room = omega arith; procedures = h.procedures; procedure = h.procedure; blocks = blocks_more _ (count_is (Some i)) }
 
-entered_told : (s : Imported) (n : List ℕ) → IsImported s → IsImported (entered residents s n).0
+-- and its block is among them
+abbrev IsEntered : Imported × ℕ → Type 0
+IsEntered q = IsImported q.0 × (q.1 < length q.0.env.scopes.blocks)
+
+known_block : (count : ℕ) (ms : List Entered) (n : List ℕ) (b : ℕ) → AllFine (λ (x : Entered). x.block < count) ms → block_of ms n ≡ Some b → b < count
+known_block count [] n b all is = absurd (none-some b is)
+known_block count (m ∷ ms) n b all is = by (same n m.name) is (known_block count ms n b all.1)
+  where
+    by : (c : Bool) → (if c then Some m.block else block_of ms n) ≡ Some b → (block_of ms n ≡ Some b → b < count) → b < count
+    by true is rest = subst (λ (k : ℕ). k < count) (same_Some m.block b is) all.0
+    by false is rest = rest is
+
+entered_told : (s : Imported) (n : List ℕ) → IsImported s → IsEntered (entered residents s n)
 unfolding entered
 entered_told s n h = by (block_of s.modules n) refl
   where
-    by : (o : Option ℕ) → block_of s.modules n ≡ o → IsImported (entered_by o residents s n).0
-    by None is = module_told s n is h (named residents n) refl
-    by (Some b) is = h
+    by : (o : Option ℕ) → block_of s.modules n ≡ o → IsEntered (entered_by o residents s n)
+    by None is = (module_told s n is h (named residents n) refl, omega (arith, count_is s n is h (named residents n)))
+    by (Some b) is = (h, known_block (length s.env.scopes.blocks) s.modules n b h.blocks is)
 
 take_told : (q : Source) (i : Ident) (s : Imported) (x : Thing) → IsImported s → IsTaken s x → Right IsImported (take_node q i s x)
 unfolding take_node
-take_told q i s x h j clear = record { told = λ few. bound_declared s.env (h.told few) s.env.scopes.inner i.name (names.entry x i.place) (j few); room = h.room }
+take_told q i s x h j clear = record {
+  told = λ few. bound_declared s.env (h.told few) s.env.scopes.inner i.name (names.entry x i.place) (j few);
+  room = h.room;
+  procedures = h.procedures;
+  procedure = h.procedure;
+  blocks = subst (λ (count : ℕ). AllFine (λ (m : Entered). m.block < count) s.modules) (sym (bound_many s.env.scopes.blocks s.env.scopes.inner i.name (names.entry x i.place))) h.blocks;
+}
 
-member_is_thing : (e : Env) → Declared e → (k : ℕ) (n : List ℕ) (x : Thing) → member e.scopes k n ≡ Some x → IsThing e x
-member_is_thing e h k n x is =
-    (subst (λ o. IfSome o (ThingTold e.types e.variables e.texts)) is (member_is (ThingTold e.types e.variables e.texts) e.scopes k n h.told.names), subst (λ o. IfSome o (IsIn e.types)) is (member_is (IsIn e.types) e.scopes k n h.residents))
+-- before the declarations there are no procedures
+no_procedure : {A : Type 0} (ps : List RProc) → ps ≡ [] → (n : ℕ) (q : RProc) → slice_get ps n ≡ Some q → A
+no_procedure ps none n q is = absurd (none-some q (ap (λ (ps : List RProc). slice_get ps n) (sym none) ∙ is))
+
+member_is_thing : (e : Env) → Declared e → e.procedures ≡ [] → (k : ℕ) (n : List ℕ) (x : Thing) → member e.scopes k n ≡ Some x → IsThing e x
+member_is_thing e h none k n x is = (
+  subst (λ o. IfSome o (ThingTold e.types e.variables e.texts)) is (member_is (ThingTold e.types e.variables e.texts) e.scopes k n h.told.names),
+  (subst (λ o. IfSome o (IsIn e.types)) is (member_is (IsIn e.types) e.scopes k n h.residents), allowed x is),
+)
+  where
+    allowed : (x : Thing) → member e.scopes k n ≡ Some x → Allowed (length e.scopes.blocks) e.procedures x
+    allowed (thing.Procedure r) is = let d = h.told.homed.names k n r is in no_procedure e.procedures none r.number d.its d.there
+    allowed (thing.Module b) is = h.told.homed.modules k n b is
+    allowed _ is = tt
 
 found_told : (s : Imported) (i : Ident) (k : ℕ) → IsImported s → Right (IsTaken s) (found_node i (member s.env.scopes k i.name))
 unfolding found_node
@@ -109,21 +203,23 @@ found_told s i k h clear few = by (member s.env.scopes k i.name) refl clear
 
     by : (o : Option Thing) → member s.env.scopes k i.name ≡ o → (is_none o ≡ false) × ((is_hidden o ≡ false) × ((not (built (thing_or_broken o)) ≡ false) × Unit {0})) → IsThing s.env (thing_or_broken o)
     by None is clear = absurd (true≢false clear.0)
-    by (Some x) is clear = shown x clear.1.0 (member_is_thing s.env (h.told few) k i.name x is)
+    by (Some x) is clear = shown x clear.1.0 (member_is_thing s.env (h.told few) h.procedures k i.name x is)
 
 name_told : (k : ℕ) (s : Imported) (i : Ident) → IsImported s → Right IsImported (name_step k s i)
 name_told k s i h = after_right (IsTaken s) IsImported (found_node i (member s.env.scopes k i.name)) (take_node (from.Block k) i s) (found_told s i k h) (λ x told. take_told (from.Block k) i s x h told)
 
 own_told : (s : Imported) (i : Ident) → IsImported s → Right IsImported (module_step residents s i)
-own_told s i h = take_told from.Itself i (entered residents s i.name).0 (thing.Module (entered residents s i.name).1) (entered_told s i.name h) (λ few. (tt, tt))
+own_told s i h =
+    let e = entered_told s i.name h in
+    take_told from.Itself i (entered residents s i.name).0 (thing.Module (entered residents s i.name).1) e.0 (λ few. (tt, (tt, record { low = e.1; below = λ n q is. no_procedure (entered residents s i.name).0.env.procedures e.0.procedures n q is })))
 
 import_told : (s : Imported) (x : Import) → IsImported s → Right IsImported (import_step residents s x)
 import_told s x h = by x.from
   where
     by : (o : Option Ident) → Right IsImported (import_by residents s o x.names)
     by None = walk_keeps IsImported (module_step residents) own_told s x.names h
-    by (Some m) = walk_keeps IsImported (name_step (entered residents s m.name).1) (name_told (entered residents s m.name).1) (entered residents s m.name).0 x.names (entered_told s m.name h)
+    by (Some m) = walk_keeps IsImported (name_step (entered residents s m.name).1) (name_told (entered residents s m.name).1) (entered residents s m.name).0 x.names (entered_told s m.name h).0
 
-pub imports_told : (xs : List Import) → Right (λ (s : Imported). Few s.env.types → Declared s.env) (imports_mean residents nothing_imported xs)
+pub imports_told : (xs : List Import) → Right IsImported (imports_mean residents nothing_imported xs)
 unfolding imports_mean
-imports_told xs clear = (walk_keeps IsImported (import_step residents) import_told nothing_imported xs nothing clear).told
+imports_told xs clear = walk_keeps IsImported (import_step residents) import_told nothing_imported xs nothing clear

@@ -1,32 +1,38 @@
 -- What a text imports and declares without a fault is told.
-use Rattle.std.proofs.Common.{◌≡◌, ℕ, List, [], ◌∷◌, ◌++◌, map, Option, Some, None, refl, sym, subst, ◌∙◌, true≢false}
+use Rattle.std.proofs.Common.{◌≡◌, ℕ, suc, ◌+◌, false, List, [], ◌∷◌, ◌++◌, length, map, take, drop, Option, Some, None, refl, sym, ap, subst, ◌∙◌, arith, true≢false}
+use Rattle.std.specs.Prelude.{is_some}
 use Rattle.lil_text.specs.declared.tree.Ident.{Ident}
-use Rattle.lil_language.specs.declared.unit.{Import.Import, Block.Block, Decl.{Decl, out-Decl, TheFolds.{map-Decl, fold-Block, fold_out-Decl}, TheOpen.Decl-F}, Heading.Heading, Sort.Sort, TypeName.TypeName, Variables.Variables}
+use Rattle.lil_language.specs.declared.unit.{Import.Import, Block.{Block, roll-Block}, Decl.{Decl, TheFolds.{map-Decl, map-Block, fold-Block, fold-roll-Decl, fold-roll-Block, ind-Decl}, TheOpen.{Decl-F, Block-F}, TheViews.roll-Decl}, Sort.Sort, TypeName.TypeName, Variables.Variables}
 use Rattle.lil_language.specs.declared.unit.Decl.TheOpen as d
-use Rattle.lil_declared.specs.declared.declared.{Mode.TheVariants.Plain, RVar.RVar}
-use Rattle.lil_report.specs.Told.{Row, after, walk}
-use Rattle.lil_scope.specs.{Names.{bind, bind_at, entry}, declared.env.{Env.Env, Wait.Wait}}
-use Rattle.lil_shapes.specs.ShapeSound.{earlier}
+use Rattle.lil_language.specs.declared.unit.Decl.TheVariants as v
+use Rattle.lil_declared.specs.declared.declared.{Mode.TheVariants.Plain, RProc.RProc, RVar.RVar}
+use Rattle.lil_report.specs.{Told.{Row, after, walk}, Laws.walk_map}
+use Rattle.lil_scope.specs.{Names.{bind, bind_at, entry, chain_by}, declared.env.{Env.Env, Wait.Wait}}
+use Rattle.lil_shapes.specs.{ListLaws.AllFine, ShapeSound.earlier}
 use Rattle.lil_forms.specs.Scopes.{fine_more}
 use Rattle.lil_check_value.specs.Looks.{not_built, type_named}
 use Rattle.lil_check_type.specs.{Made.Made, Sorts.sort_means}
-use Rattle.lil_check_decl.specs.{Constants.constant_step, Decls.{type_thing, form_means, type_step, variables_step, bare, pointing, wait_step, settled, block_end, Means, Sense, expecting, decl_layer, block_layer, decl_sense, decl_step, decls_inside, decls_mean}, Headings.{variable_thing, with_variable, variable_step, here, heading_means}, declared.home.Home.Home}
+use Rattle.lil_check_decl.specs.{Constants.constant_step, Decls.{type_thing, form_means, type_step, variables_step, bare, pointing, wait_step, settled, block_end, Means, Sense, expecting, decl_layer, block_layer, decl_sense, decl_step, procedure_means, decls_inside, decls_mean}, Headings.{variable_thing, with_variable, variable_step, here, heading_means}, declared.home.Home.Home}
+use Rattle.lil_check_stmt.specs.Texts.{Texts, texts_in, texts, no_constant, no_type, no_variables, with_block}
 use Rattle.lil_interfaces.specs.{Interfaces.residents, Imports.{imports_mean, nothing_imported, export_step, exports_mean}, declared.importing.{Imported.Imported, Taken.Taken}}
-use Rattle.lil_right_type.specs.Right.{Right, after_right}
-use Rattle.lil_right_sort.specs.{Growth.{Few, grown_same, last_there, IsThing, Declared, declared_waits, bound_declared, more_declared}, Simple.{Begun, Follows, SortTold, sort_later, walk_keeps, named_right}, Sorts.sort_right}
+use Rattle.lil_right_type.specs.Right.{Right, IsAny, after_right}
+use Rattle.lil_right_sort.specs.{Growth.{Few, last_there, IsThing, Declared, declared_waits, bound_declared, more_declared}, Simple.{Begun, later_same, Follows, SortTold, sort_later, walk_keeps, named_right}, Sorts.sort_right}
 use Rattle.lil_right_value.specs.Names.{Lies}
-use Rattle.lil_right_decl.specs.{Aimed.{few_aimed, aimed_declared}, Constants.{Behind, IsMeant, bind_behind, constant_behind}, Imported.imports_told}
+use Rattle.lil_right_decl.specs.{Aimed.{few_aimed, aimed_declared}, Constants.{Behind, IsMeant, bind_behind, constant_behind}, Headings.{IsText, After, after_more, after_same, after_none, procedure_right}, Imported.{IsImported, imports_told}}
 
--- ---- procedures have a row of 90
-heading_wrong : (e : Env) (h : Heading) → Right (λ f. ⊥) (heading_means e h)
-unfolding not_built
-heading_wrong e h clear = true≢false clear.0
-
--- ---- variables of a type, in the block of the module
+-- ---- variables of a type, in the block of the module where they belong to no procedure
 record IsHome (h : Home) : Type 0 where
-  pub level : h.level ≡ 1
-  pub owner : h.owner ≡ None
+  pub level : h.owner ≡ None → h.level ≡ 1
   pub mode : h.mode ≡ Plain
+
+-- a variable that belongs to a procedure has a row of 90
+no_owner : (o : Option ℕ) → is_some o ≡ false → o ≡ None
+no_owner None h = refl
+no_owner (Some n) h = absurd (true≢false h)
+
+-- outside of procedures is the module's block
+here_home : (e : Env) → Declared e → IsHome (here e)
+here_home e h = record { level = λ none. h.told.stands.path.level_is ∙ ap (λ (o : Option ℕ). suc (length (chain_by e.procedures o))) none; mode = refl }
 
 module _ (h : Home) (o : Option ℕ) where
   abbrev IsAt : Env → Type 0
@@ -35,33 +41,62 @@ module _ (h : Home) (o : Option ℕ) where
   abbrev HasHome : Env → Env → Type 0
   HasHome e f = Follows e f (IsAt f)
 
-variable_declared : (h : Home) (o : Option ℕ) (f : Env) (i : Ident) → Declared f → IsAt h o f → Declared (with_variable h o i.name (bind_at h.block f i (variable_thing h o f)).0)
+variable_declared : (h : Home) (o : Option ℕ) (f : Env) (i : Ident) → h.owner ≡ None → Declared f → IsAt h o f → Declared (with_variable h o i.name (bind_at h.block f i (variable_thing h o f)).0)
 unfolding bind_at
-variable_declared h None f i told at = absurd at.1
-variable_declared h (Some n) f i told at =
+variable_declared h None f i none told at = absurd at.1
+variable_declared h (Some n) f i none told at =
     let v : RVar = record { name = i.name; sort = n; mode = h.mode; owner = h.owner } in
     let vs : List RVar = f.variables ++ v ∷ [] in
-    let more : Declared (record f { variables = vs; texts = f.texts }) = more_declared f told vs f.texts (λ j x is. earlier f.variables (v ∷ []) j x is) (λ j cs is. is) (fine_more _ f.variables v told.variables (at.1, at.0.owner)) in
-    bound_declared (record f { variables = vs }) more h.block i.name (entry (variable_thing h (Some n) f) i.place) ((at.0.level, at.0.mode, (v, last_there f.variables v, refl), at.1), tt)
+    let more : Declared (record f { variables = vs; texts = f.texts }) = more_declared f told vs f.texts (λ j x is. earlier f.variables (v ∷ []) j x is) (λ j cs is. is) (fine_more _ f.variables v told.variables (at.1, none)) in
+    bound_declared (record f { variables = vs }) more h.block i.name (entry (variable_thing h (Some n) f) i.place) ((at.0.level none, at.0.mode, (v, last_there f.variables v, refl), at.1), (tt, tt))
 
 variable_behind : (h : Home) (o : Option ℕ) (e f : Env) (i : Ident) → HasHome h o e f → Right (HasHome h o e) (variable_step h o f i)
 unfolding after bind_at
-variable_behind h o e f i b clear = (b.0, λ few. let j = b.1 few in (variable_declared h o f i j.0 j.1, j.1))
+variable_behind h o e f i b clear = (b.0, λ few. let j = b.1 few in (variable_declared h o f i (no_owner h.owner clear.1.0) j.0 j.1, j.1))
 
 -- ---- the end of a block
-wait_told : (e : Env) (w : Wait) → Begun e → Right Begun (wait_step e w)
-wait_told e w h = after_right (λ o. Few e.types → Lies e.types o) Begun (type_named e (bare w)) (λ o. (pointing e w.pointer o, [])) (named_right e h (bare w)) by
+wait_told : (ts : Texts) (e f : Env) (w : Wait) → After e ts f → Right (After e ts) (wait_step f w)
+wait_told ts e f w h = after_right (λ o. Few f.types → Lies f.types o) (After e ts) (type_named f (bare w)) (λ o. (pointing f w.pointer o, [])) (named_right f h.told (bare w)) by
   where
-    by : (o : Option ℕ) → (Few e.types → Lies e.types o) → Right Begun (pointing e w.pointer o, [])
-    by None there clear few = absurd (there few)
-    by (Some n) there clear few = let before : Few e.types = few_aimed e.types w.pointer n few in aimed_declared e (h before) w.pointer n (there before)
+    by : (o : Option ℕ) → (Few f.types → Lies f.types o) → Right (After e ts) (pointing f w.pointer o, [])
+    by None there clear = record { longer = h.longer; count = h.count; whole = h.whole; procedure = h.procedure; few = h.few; told = h.told }
+    by (Some n) there clear = record {
+      longer = h.longer;
+      count = h.count;
+      whole = h.whole;
+      procedure = h.procedure;
+      few = λ few. h.few (few_aimed f.types w.pointer n few);
+      told = λ few. let before : Few f.types = few_aimed f.types w.pointer n few in aimed_declared f (h.told before) w.pointer n (there before);
+    }
+
+-- at the end of a block fewer pointers wait, and no names of types come
+ended : (ts : Texts) (n : ℕ) (e f : Env) → After e ts f → Right (After e ts) (block_end n f)
+ended ts n e f h = walk_keeps (After e ts) wait_step (λ g w. wait_told ts e g w) (settled n f) (drop n f.waits) (record {
+  longer = h.longer;
+  count = h.count;
+  whole = h.whole;
+  procedure = h.procedure;
+  few = h.few;
+  told = λ few. declared_waits f (h.told few) (take n f.waits) [];
+})
+
+-- before the declarations of a block
+expected : (e : Env) (ss : List Sense) (ts : Texts) (f : Env) → After (expecting e ss) ts f → After e ts f
+expected e ss ts f h = record { longer = h.longer; count = h.count; whole = h.whole; procedure = h.procedure; few = h.few; told = h.told }
+
+begun_expecting : (e : Env) (ss : List Sense) → Begun e → Begun (expecting e ss)
+begun_expecting e ss h few = declared_waits e (h few) e.waits (expecting e ss).coming
 
 block_means : Block → Means
 block_means = fold-Block Sense Means decl_layer block_layer
 
-decl_is : (x : Decl) → decl_sense x ≡ decl_layer (map-Decl Decl Block Sense Means decl_sense block_means (out-Decl x))
+decl_is : (x : Decl-F Decl Block) → decl_sense (roll-Decl x) ≡ decl_layer (map-Decl Decl Block Sense Means decl_sense block_means x)
 unfolding decl_sense block_means
-decl_is x = fold_out-Decl Sense Means decl_layer block_layer x
+decl_is = fold-roll-Decl Sense Means decl_layer block_layer
+
+block_is : (x : Block-F Decl Block) → block_means (roll-Block x) ≡ block_layer (map-Block Decl Block Sense Means decl_sense block_means x)
+unfolding decl_sense block_means
+block_is = fold-roll-Block Sense Means decl_layer block_layer
 
 -- ---- types
 type_meant : (e : Env) (m : Made) → SortTold e m → IsMeant e m.0 (type_thing m.1)
@@ -69,7 +104,7 @@ type_meant e m made = (made.0, λ few. let j = made.1 few in (j.0, by m.1 j.1))
   where
     by : (o : Option ℕ) → Lies m.0.types o → IsThing m.0 (type_thing o)
     by None there = absurd there
-    by (Some n) there = (λ so. there, tt)
+    by (Some n) there = (λ so. there, (tt, tt))
 
 sort_made : (e f : Env) (x : Sort) → Behind e f → Right (SortTold e) (sort_means f x)
 sort_made e f x b clear = sort_later e f (sort_means f x).0 b.0 (sort_right f b.1 x clear)
@@ -87,26 +122,82 @@ variables_behind : (e f : Env) (x : Variables) → Behind e f → Right (Behind 
 variables_behind e f x b = after_right (SortTold e) (Behind e) (sort_means f x.sort) (λ m. walk (variable_step (here m.0) m.1) m.0 x.names)
     (sort_made e f x.sort b)
     (λ m made clear.
-    let home : HasHome (here m.0) m.1 e m.0 = (made.0, λ few. let j = made.1 few in (j.0, (record { level = j.0.level; owner = j.0.procedure; mode = refl }, j.1))) in
+    let home : HasHome (here m.0) m.1 e m.0 = (made.0, λ few. let j = made.1 few in (j.0, (here_home m.0 j.0, j.1))) in
     let last = walk_keeps (HasHome (here m.0) m.1 e) (variable_step (here m.0) m.1) (λ g i. variable_behind (here m.0) m.1 e g i) m.0 x.names home clear in
     (last.0, λ few. (last.1 few).0))
 
 -- ---- declarations
-decl_behind : (e f : Env) (x : Decl) → Behind e f → Right (Behind e) (decl_step f x)
-decl_behind e f x b = subst (λ (s : Sense). Right (Behind e) (s.means f)) (sym (decl_is x)) (by (out-Decl x))
-  where
-    by : (y : Decl-F Decl Block) → Right (Behind e) ((decl_layer (map-Decl Decl Block Sense Means decl_sense block_means y)).means f)
-    by (d.ConstIs p xs) = walk_keeps (Behind e) constant_step (λ g c. constant_behind e g c) f xs b
-    by (d.TypeIs p xs) = walk_keeps (Behind e) type_step (λ g x. type_behind e g x) f xs b
-    by (d.VarsAre p xs) = walk_keeps (Behind e) variables_step (λ g x. variables_behind e g x) f xs b
-    by (d.ProcIs h None) = λ clear. absurd (heading_wrong f h clear)
-    by (d.ProcIs h (Some w)) = after_right (λ g. ⊥) (Behind e) (heading_means f h) _ (heading_wrong f h) (λ g never. absurd never)
+-- what declares procedures with these texts
+abbrev Declares : Means → Texts → Type 0
+Declares m ts = (f : Env) → Begun f → Right (After f ts) (m f)
 
-decls_told : (e : Env) (ds : List Decl) → Begun e → Right Begun (decls_mean e ds)
+abbrev IsDecl : Decl → Type 0
+IsDecl x = Declares (decl_sense x).means (texts_in x)
+
+abbrev IsBlock : Block → Type 0
+IsBlock b = Declares (block_means b) (texts b.decls)
+
+-- declarations one behind another
+decls_right : (ds : List Decl) → AllFine IsDecl ds → (f : Env) → Begun f → Right (After f (texts ds)) (walk decl_step f ds)
+decls_right [] all f begun = λ clear. after_same f begun
+decls_right (x ∷ xs) all f begun =
+    after_right (After f (texts_in x)) (After f (texts (x ∷ xs))) (decl_step f x) (λ g. walk decl_step g xs) (all.0 f begun)
+    (λ g h clear. after_more f g _ (texts_in x) (texts xs) h (decls_right xs all.1 g h.told clear))
+
+-- trees, each with its proof
+abbrev DeclTree : Type 0
+DeclTree = (x : Decl) × IsDecl x
+
+abbrev BlockTree : Type 0
+BlockTree = (b : Block) × IsBlock b
+
+abbrev bare_decl : Decl-F DeclTree BlockTree → Decl-F Decl Block
+bare_decl = map-Decl DeclTree BlockTree Decl Block (λ x. x.0) (λ b. b.0)
+
+abbrev bare_block : Block-F DeclTree BlockTree → Block-F Decl Block
+bare_block = map-Block DeclTree BlockTree Decl Block (λ x. x.0) (λ b. b.0)
+
+each_decl : (xs : List DeclTree) → AllFine IsDecl (map (λ x. x.0) xs)
+each_decl [] = tt
+each_decl (x ∷ xs) = (x.1, each_decl xs)
+
+-- a list of declarations of one kind declares no procedures
+plain : {X : Type 0} (step : Env → X → Env × List Row) (keeps : (e f : Env) (x : X) → Behind e f → Right (Behind e) (step f x)) (xs : List X) (ts : Texts) → ts ≡ [] → Declares (λ e. walk step e xs) ts
+plain step keeps xs ts none f begun clear =
+    let behind = walk_keeps (Behind f) step (λ g x. keeps f g x) f xs (later_same f, begun) clear in
+    subst (λ (ts : Texts). After f ts (walk step f xs).0) (sym none) (after_none f (walk step f xs).0 behind)
+
+decl_layer_right : (y : Decl-F DeclTree BlockTree) → Declares (decl_layer (map-Decl Decl Block Sense Means decl_sense block_means (bare_decl y))).means (texts_in (roll-Decl (bare_decl y)))
+unfolding not_built
+decl_layer_right (d.ConstIs p xs) f begun = plain constant_step (λ e f c. constant_behind e f c) xs _ (ap texts_in (v.rolls-ConstIs p xs) ∙ no_constant p xs) f begun
+decl_layer_right (d.TypeIs p xs) f begun = plain type_step (λ e f x. type_behind e f x) xs _ (ap texts_in (v.rolls-TypeIs p xs) ∙ no_type p xs) f begun
+decl_layer_right (d.VarsAre p xs) f begun = plain variables_step (λ e f x. variables_behind e f x) xs _ (ap texts_in (v.rolls-VarsAre p xs) ∙ no_variables p xs) f begun
+decl_layer_right (d.ProcIs h None) f begun = after_right IsAny (After f _) (heading_means f h) _ (λ clear. tt) (λ g any clear. absurd (true≢false clear.0))
+decl_layer_right (d.ProcIs h (Some b)) f begun =
+    subst (λ (ts : Texts). Right (After f ts) (procedure_means f h (block_means b.0))) (sym (ap texts_in (v.rolls-ProcIs h (Some b.0)) ∙ with_block h b.0)) (procedure_right f begun h b.0.body (texts b.0.decls) (block_means b.0) b.1)
+
+block_layer_right : (y : Block-F DeclTree BlockTree) → Declares (block_layer (map-Block Decl Block Sense Means decl_sense block_means (bare_block y))) (texts (map (λ x. x.0) y.decls))
+block_layer_right y f begun =
+    let ds : List Decl = map (λ x. x.0) y.decls in
+    after_right (After f (texts ds)) (After f (texts ds)) (walk (λ (e : Env) (s : Sense). s.means e) (expecting f (map decl_sense ds)) (map decl_sense ds)) (block_end (length f.waits))
+    (subst (Right (After f (texts ds))) (sym (walk_map (λ (e : Env) (s : Sense). s.means e) decl_sense (expecting f (map decl_sense ds)) ds))
+    (λ clear. expected f (map decl_sense ds) (texts ds) _ (decls_right ds (each_decl y.decls) (expecting f (map decl_sense ds)) (begun_expecting f (map decl_sense ds) begun) clear)))
+    (λ g h. ended (texts ds) (length f.waits) f g h)
+
+decl_right : (x : Decl) → IsDecl x
+decl_right = ind-Decl IsDecl IsBlock
+    (λ x y is. subst (λ z. IsDecl (roll-Decl z)) is (subst (λ (s : Sense). Declares s.means (texts_in (roll-Decl (bare_decl y)))) (sym (decl_is (bare_decl y))) (decl_layer_right y)))
+    (λ b y is. subst (λ z. IsBlock (roll-Block z)) is (subst (λ (m : Means). Declares m (texts (map (λ x. x.0) y.decls))) (sym (block_is (bare_block y))) (block_layer_right y)))
+
+all_right : (ds : List Decl) → AllFine IsDecl ds
+all_right [] = tt
+all_right (x ∷ xs) = (decl_right x, all_right xs)
+
+decls_told : (e : Env) (ds : List Decl) → Begun e → Right (After e (texts ds)) (decls_mean e ds)
 unfolding decls_mean decls_inside
-decls_told e ds h = after_right (Behind e) Begun (walk decl_step (expecting e (map decl_sense ds)) ds) (block_end 0)
-    (walk_keeps (Behind e) decl_step (λ f x. decl_behind e f x) (expecting e (map decl_sense ds)) ds (grown_same e.types, λ few. declared_waits e (h few) e.waits (expecting e (map decl_sense ds)).coming))
-    (λ f b. walk_keeps Begun wait_step wait_told (settled 0 f) f.waits (λ few. declared_waits f (b.1 few) [] []))
+decls_told e ds h = after_right (After e (texts ds)) (After e (texts ds)) (walk decl_step (expecting e (map decl_sense ds)) ds) (block_end 0)
+    (λ clear. expected e (map decl_sense ds) (texts ds) _ (decls_right ds (all_right ds) (expecting e (map decl_sense ds)) (begun_expecting e (map decl_sense ds) h) clear))
+    (λ f j. ended (texts ds) 0 e f j)
 
 -- behind them no pointer waits
 wait_settled : (e : Env) (w : Wait) → (wait_step e w).0.waits ≡ e.waits
@@ -127,10 +218,10 @@ unfolding decls_mean decls_inside after
 decls_settled e ds = let f = (walk decl_step (expecting e (map decl_sense ds)) ds).0 in waits_settled (settled 0 f) f.waits
 
 -- ---- a text
-exports_told : (ts : List Taken) (e : Env) (xs : Option (List Ident)) → Begun e → Right Begun (exports_mean ts e xs)
+exports_told : (P : Env → Type 0) (ts : List Taken) (e : Env) (xs : Option (List Ident)) → P e → Right P (exports_mean ts e xs)
 unfolding export_step
-exports_told ts e None h = λ clear. h
-exports_told ts e (Some xs) h = walk_keeps Begun (export_step ts) (λ f x j clear. j) e xs h
+exports_told P ts e None h = λ clear. h
+exports_told P ts e (Some xs) h = walk_keeps P (export_step ts) (λ f x j clear. j) e xs h
 
 exports_settled : (ts : List Taken) (e : Env) (xs : Option (List Ident)) → e.waits ≡ [] → (exports_mean ts e xs).0.waits ≡ []
 unfolding export_step after
@@ -141,11 +232,20 @@ exports_settled ts e (Some xs) h = each e xs h
     each f [] j = j
     each f (i ∷ is) j = each f is j
 
+-- what is declared in a module, with the procedures of these texts
+pub record IsModule (ts : Texts) (e : Env) : Type 0 where
+  pub told : Few e.types → Declared e
+  pub count : length e.procedures ≡ length ts
+  pub whole : AllFine IsText ts
+  pub procedure : e.procedure ≡ None
+
 pub declared_told : (xs : List Import) (ds : List Decl) (exports : Option (List Ident))
-    → Right (λ (e : Env). Few e.types → Declared e) (after (imports_mean residents nothing_imported xs) (λ s. after (decls_mean s.env ds) (λ e. exports_mean s.taken e exports)))
-declared_told xs ds exports = after_right (λ (s : Imported). Begun s.env) Begun (imports_mean residents nothing_imported xs) (λ s. after (decls_mean s.env ds) (λ e. exports_mean s.taken e exports))
+    → Right (IsModule (texts ds)) (after (imports_mean residents nothing_imported xs) (λ s. after (decls_mean s.env ds) (λ e. exports_mean s.taken e exports)))
+declared_told xs ds exports = after_right IsImported (IsModule (texts ds)) (imports_mean residents nothing_imported xs) (λ s. after (decls_mean s.env ds) (λ e. exports_mean s.taken e exports))
     (imports_told xs)
-    (λ s h. after_right Begun Begun (decls_mean s.env ds) (λ e. exports_mean s.taken e exports) (decls_told s.env ds h) (λ e j. exports_told s.taken e exports j))
+    (λ s h. after_right (IsModule (texts ds)) (IsModule (texts ds)) (decls_mean s.env ds) (λ e. exports_mean s.taken e exports)
+    (λ clear. let a = decls_told s.env ds h.told clear in record { told = a.told; count = omega (arith, a.count, ap length h.procedures); whole = a.whole; procedure = a.procedure ∙ h.procedure })
+    (λ e j. exports_told (IsModule (texts ds)) s.taken e exports j))
 
 pub declared_settled : (xs : List Import) (ds : List Decl) (exports : Option (List Ident)) → (after (imports_mean residents nothing_imported xs) (λ s. after (decls_mean s.env ds) (λ e. exports_mean s.taken e exports))).0.waits ≡ []
 unfolding after

@@ -6,7 +6,7 @@ use Rattle.lil_types.specs.{Types.{Table, entry, known, facts_in, meant, meant_b
 use Rattle.lil_types.specs.declared.table.{TypeEntry.TypeEntry, TypeForm.{TypeForm, TheVariants.{Enumeration, Subrange, Array, Record, SetOf, Pointer, Procedure, Opaque}}}
 use Rattle.lil_types.specs.Types as types
 use Rattle.lil_types.specs.Adding as adding
-use Rattle.lil_declared.specs.declared.{declared.RVar.RVar, standard.Resident.Resident}
+use Rattle.lil_declared.specs.declared.declared.{RProc.RProc, RVar.RVar}
 use Rattle.lil_resolved.specs.declared.resolved.{RBase.RBase, RKind.RKind}
 use Rattle.lil_resolved.specs.declared.resolved.RBase.TheVariants as b
 use Rattle.lil_scope.specs.{declared.{env.{Env.Env, Wait.Wait}, thing.{Entry.Entry, Kind.Kind, Thing.Thing}}, Names.{bound_at, with_blocks, with_block}}
@@ -15,15 +15,11 @@ use Rattle.lil_scope.specs.declared.thing.Thing.TheVariants as thing
 use Rattle.lil_kinds.specs.{Forms.{form_in, shape, span_in, is_routine_form, of_form, parameters, parameters_of, parameters_in, result, result_of}}
 use Rattle.lil_shapes.specs.{BaseLaws.kind_base, Bases.{plain, base_by, base_form, base_at, kind_over, kind_at, is_composite, composite_at, composite_by}, ListLaws.AllFine, Pointers.lies_at, ShapeSound.{at_end, earlier}}
 use Rattle.lil_forms.specs.Scopes.{fine_more}
-use Rattle.lil_right_type.specs.{Types.{HasNumbers, HasSpan, FormTold, IsTold, IsOrdinal, meant_is, own_base, known_ordinal, entry_known}, Words.{FormMeasured, AreMeasured}, Parts.base_itself, Found.{KindTold, signature, ThingTold, EnvTold}}
+use Rattle.lil_right_type.specs.{Homes.{Allowed, homed_bound, homed_begun}, Types.{HasNumbers, HasSpan, FormTold, IsTold, IsOrdinal, meant_is, own_base, known_ordinal, entry_known}, Words.{FormMeasured, AreMeasured}, Parts.base_itself, Found.{KindTold, signature, ThingTold, EnvTold}}
 use Rattle.lil_right_value.specs.Names.{Told, bound_at_is}
+pub use Rattle.lil_right_type.specs.{Right.all_then, Homes.last_there}
 
 -- ---- what is true of all elements
-module _ {A : Type 0} (P Q : A → Type 0) where
-  pub all_then : ((x : A) → P x → Q x) → (xs : List A) → AllFine P xs → AllFine Q xs
-  all_then f [] h = tt
-  all_then f (x ∷ xs) h = (f x h.0, all_then f xs h.1)
-
 module _ {A : Type 0} (P Q R : A → Type 0) where
   pub all_with : ((x : A) → P x → Q x → R x) → (xs : List A) → AllFine P xs → AllFine Q xs → AllFine R xs
   all_with f [] h j = tt
@@ -90,8 +86,9 @@ module _ (t : Table) (told : IsTold t) where
   lies_below : (n : ℕ) → lies_at t n ≡ true → n < next t
   lies_below n h = either (kind_at t n) (composite_at t n) h (λ j is. under_below n j.base (kind_base t n j is)) (composite_below t n)
 
--- the type of a resident procedure is in the table
+-- the type of a procedure is in the table
 abbrev pub IsIn : Table → Thing → Type 0
+IsIn t (thing.Procedure x) = x.sort < next t
 IsIn t (thing.Resident x s) = s < next t
 IsIn t _ = Unit {0}
 
@@ -194,9 +191,9 @@ module _ {to : ℕ} (t u : Table) (told : IsTold t) (kept : Kept to t u) where
       ∙ same (λ o. part (form_in o)) blind n h
       ∙ sym (ap (λ m. part (form_in (entry t m))) (meant_is t told n))
 
-  resident_stays : (x : Resident) (s : ℕ) → s < next t → (parameters t s ≡ signature x) × (result t s ≡ None) → (parameters u s ≡ signature x) × (result u s ≡ None)
+  pub heading_stays : (ps : List Parameter) (s : ℕ) → s < next t → (parameters t s ≡ ps) × (result t s ≡ None) → (parameters u s ≡ ps) × (result u s ≡ None)
   unfolding parameters result
-  resident_stays x s here h =
+  heading_stays ps s here h =
       (same_heading parameters_in (λ e a form. sym (ap parameters_of form)) s here ∙ h.0, same_heading (of_form result_of) (λ e a form. sym (ap result_of form)) s here ∙ h.1)
 
   -- as more variables and texts are declared too
@@ -206,10 +203,12 @@ module _ {to : ℕ} (t u : Table) (told : IsTold t) (kept : Kept to t u) where
     thing_stays (thing.Named n c) here h = (h.0, (h.1.0, kept_texts n h.1.0 h.1.1, h.1.2))
     thing_stays (thing.Variable v) here h = (h.0, h.1, (h.2.0, held v.number h.2.0 h.2.1, h.2.2), lies_stays v.sort h.3)
     thing_stays (thing.Type s) here h = λ so. lies_stays s (h so)
-    thing_stays (thing.Resident x s) here h = resident_stays x s here h
+    thing_stays (thing.Procedure x) here h = heading_stays [] x.sort here h
+    thing_stays (thing.Resident x s) here h = heading_stays (signature x) s here h
     thing_stays _ here h = h
 
   in_stays : (x : Thing) → IsIn t x → IsIn u x
+  in_stays (thing.Procedure x) h = kept.below x.sort h
   in_stays (thing.Resident x s) h = kept.below s h
   in_stays _ h = tt
 
@@ -264,10 +263,6 @@ module _ (t : Table) (told : IsTold t) where
   new_is (Opaque o) f is few h = absurd h
 
 -- ---- the table with it
-pub last_there : {A : Type 0} (xs : List A) (x : A) → slice_get (xs ++ x ∷ []) (length xs) ≡ Some x
-last_there [] x = refl
-last_there (y ∷ xs) x = last_there xs x
-
 module _ (t : Table) (x : TypeEntry) where
   appended : Grown t (t ++ x ∷ [])
   appended n e h = grind (arith, nat_tests, earlier)
@@ -348,34 +343,36 @@ pub shape_parameters : (t : Table) (n : ℕ) (ps : List Parameter) (r : Option �
 unfolding parameters result
 shape_parameters t n ps r is = (ap parameters_in is, ap (of_form result_of) is)
 
--- ---- what is declared in the block of a module
+-- ---- what is declared
 abbrev AreIn : Env → Type 0
 AreIn e = AllFine (AllFine (λ (x : List ℕ × Entry). IsIn e.types x.1.thing)) e.scopes.blocks
 
-abbrev Lie : Env → Type 0
+-- variables of the module, in which something lies
+abbrev pub Lie : Env → Type 0
 Lie e = AllFine (λ (v : RVar). (lies_at e.types v.sort ≡ true) × (v.owner ≡ None)) e.variables
+
+-- the type of a procedure without parameters, which isn't a function
+abbrev pub IsProper : Table → RProc → Type 0
+IsProper t q = (q.sort < next t) × ((parameters t q.sort ≡ []) × (result t q.sort ≡ None))
 
 pub record Declared (e : Env) : Type 0 where
   pub told : EnvTold e
   pub residents : AreIn e
   pub variables : Lie e
-  pub level : length e.scopes.outer ≡ 1
-  pub procedure : e.procedure ≡ None
+  pub proper : AllFine (IsProper e.types) e.procedures
 
 -- a thing that may be bound there
 abbrev pub IsThing : Env → Thing → Type 0
-IsThing e x = ThingTold e.types e.variables e.texts x × IsIn e.types x
+IsThing e x = ThingTold e.types e.variables e.texts x × (IsIn e.types x × Allowed (length e.scopes.blocks) e.procedures x)
 
 module _ (e : Env) (h : Declared e) where
-  -- the same block of the module, where other things are declared
-  declared_in : (f : Env) → f.scopes.outer ≡ e.scopes.outer → f.procedure ≡ e.procedure → EnvTold f → AreIn f → Lie f → Declared f
-  declared_in f outer procedure told residents variables = record { told = told; residents = residents; variables = variables; level = ap length outer ∙ h.level; procedure = procedure ∙ h.procedure }
-
   pub declared_kept : {to : ℕ} (u : Table) → Kept to e.types u → IsTold u → AreMeasured u → Declared (record e { types = u })
-  declared_kept u kept told measured = declared_in (record e { types = u }) refl refl
-      (record { types = told; words = measured; names = all_with _ _ _ (λ b. all_with _ _ _ (λ (x : List ℕ × Entry). same_things x.1.thing) b) e.scopes.blocks h.residents h.told.names })
-      (all_then _ _ (λ b. all_then _ _ (λ (x : List ℕ × Entry). in_stays e.types u h.told.types kept x.1.thing) b) e.scopes.blocks h.residents)
-      (all_then _ _ (λ (v : RVar) j. (lies_stays e.types u h.told.types kept v.sort j.0, j.1)) e.variables h.variables)
+  declared_kept u kept told measured = record {
+    told = record { types = told; words = measured; names = all_with _ _ _ (λ b. all_with _ _ _ (λ (x : List ℕ × Entry). same_things x.1.thing) b) e.scopes.blocks h.residents h.told.names; homed = h.told.homed; stands = h.told.stands };
+    residents = all_then _ _ (λ b. all_then _ _ (λ (x : List ℕ × Entry). in_stays e.types u h.told.types kept x.1.thing) b) e.scopes.blocks h.residents;
+    variables = all_then _ _ (λ (v : RVar) j. (lies_stays e.types u h.told.types kept v.sort j.0, j.1)) e.variables h.variables;
+    proper = all_then (IsProper e.types) (IsProper u) (λ (q : RProc) j. (kept.below q.sort j.0, heading_stays e.types u h.told.types kept [] q.sort j.0 j.1)) e.procedures h.proper;
+  }
     where
       same_things : (x : Thing) → IsIn e.types x → ThingTold e.types e.variables e.texts x → ThingTold u e.variables e.texts x
       same_things = thing_stays e.types u h.told.types kept e.variables e.variables e.texts e.texts (λ i v is. is) (λ i cs is. is)
@@ -385,25 +382,59 @@ module _ (e : Env) (h : Declared e) where
       let told = added_told e.types o form h.told.types h.told.words parts few in
       declared_kept (added e.types o form) (grown_kept e.types _ (added_grown e.types o form)) told.0 told.1
 
-  -- the pointers that wait and the names of types that come don't matter
+  -- the pointers that wait and the names of types that come don't matter, nor do WITHs
   pub declared_waits : (ws : List Wait) (ns : List (List ℕ)) → Declared (record e { waits = ws; coming = ns })
-  declared_waits ws ns = declared_in (record e { waits = ws; coming = ns }) refl refl (record { types = h.told.types; words = h.told.words; names = h.told.names }) h.residents h.variables
+  declared_waits ws ns = record {
+    told = record { types = h.told.types; words = h.told.words; names = h.told.names; homed = h.told.homed; stands = h.told.stands };
+    residents = h.residents;
+    variables = h.variables;
+    proper = h.proper;
+  }
 
   -- a name more in a block, and a block more, without names
   pub bound_declared : (k : ℕ) (n : List ℕ) (x : Entry) → IsThing e x.thing → Declared (with_blocks e (bound_at e.scopes.blocks k n x))
-  bound_declared k n x j = declared_in (with_blocks e (bound_at e.scopes.blocks k n x)) refl refl
-      (record { types = h.told.types; words = h.told.words; names = bound_at_is (Told e) e.scopes.blocks k n x h.told.names j.0 })
-      (bound_at_is (IsIn e.types) e.scopes.blocks k n x h.residents j.1) h.variables
+  bound_declared k n x j = record {
+    told = record {
+      types = h.told.types;
+      words = h.told.words;
+      names = bound_at_is (Told e) e.scopes.blocks k n x h.told.names j.0;
+      homed = homed_bound e.scopes.blocks e.procedures k n x h.told.homed j.1.1;
+      stands = h.told.stands;
+    };
+    residents = bound_at_is (IsIn e.types) e.scopes.blocks k n x h.residents j.1.0;
+    variables = h.variables;
+    proper = h.proper;
+  }
 
   pub begun_declared : Declared (with_block e)
-  begun_declared = declared_in (with_block e) refl refl
-      (record { types = h.told.types; words = h.told.words; names = fine_more _ e.scopes.blocks [] h.told.names tt }) (fine_more _ e.scopes.blocks [] h.residents tt) h.variables
+  begun_declared = record {
+    told = record {
+      types = h.told.types;
+      words = h.told.words;
+      names = fine_more _ e.scopes.blocks [] h.told.names tt;
+      homed = homed_begun e.scopes.blocks e.procedures h.told.homed;
+      stands = h.told.stands;
+    };
+    residents = fine_more _ e.scopes.blocks [] h.residents tt;
+    variables = h.variables;
+    proper = h.proper;
+  }
 
   -- more variables and texts, behind those before
   pub more_declared : (vs : List RVar) (texts : List (List ℕ)) → ((i : ℕ) (v : RVar) → slice_get e.variables i ≡ Some v → slice_get vs i ≡ Some v) → ((i : ℕ) (cs : List ℕ) → slice_get e.texts i ≡ Some cs → slice_get texts i ≡ Some cs)
       → AllFine (λ (v : RVar). (lies_at e.types v.sort ≡ true) × (v.owner ≡ None)) vs → Declared (record e { variables = vs; texts = texts })
-  more_declared vs texts held kept all = declared_in (record e { variables = vs; texts = texts }) refl refl
-      (record { types = h.told.types; words = h.told.words; names = all_with _ _ _ (λ b. all_with _ _ _ (λ (x : List ℕ × Entry). same_things x.1.thing) b) e.scopes.blocks h.residents h.told.names }) h.residents all
+  more_declared vs texts held kept all = record {
+    told = record {
+      types = h.told.types;
+      words = h.told.words;
+      names = all_with _ _ _ (λ b. all_with _ _ _ (λ (x : List ℕ × Entry). same_things x.1.thing) b) e.scopes.blocks h.residents h.told.names;
+      homed = h.told.homed;
+      stands = h.told.stands;
+    };
+    residents = h.residents;
+    variables = all;
+    proper = h.proper;
+  }
     where
       same_things : (x : Thing) → IsIn e.types x → ThingTold e.types e.variables e.texts x → ThingTold e.types vs texts x
       same_things = thing_stays e.types e.types h.told.types (grown_kept e.types e.types (grown_same e.types)) e.variables vs e.texts texts held kept

@@ -25,18 +25,28 @@ use Rattle.lil_right_sort.specs.{Growth.{Few, Grown, grown_same, grown_more, few
 abbrev pub Begun : Env → Type 0
 Begun e = Few e.types → Declared e
 
+-- the types of before are there, and the procedures are those of before
+abbrev pub Later : Env → Env → Type 0
+Later e f = Grown e.types f.types × ((f.procedures ≡ e.procedures) × (f.procedure ≡ e.procedure))
+
+pub later_same : (e : Env) → Later e e
+later_same e = (grown_same e.types, (refl, refl))
+
+pub later_more : (e f g : Env) → Later e f → Later f g → Later e g
+later_more e f g h j = (grown_more e.types f.types g.types h.0 j.0, (j.1.0 ∙ h.1.0, j.1.1 ∙ h.1.1))
+
 -- what is declared behind this, and true there
 abbrev pub Follows : Env → Env → Type 0 → Type 0
-Follows e f P = Grown e.types f.types × (Few f.types → Declared f × P)
+Follows e f P = Later e f × (Few f.types → Declared f × P)
 
 module _ (e f g : Env) (P Q R : Type 0) where
   pub follows : Follows e f P → Follows f g Q → (IsTold f.types → Kept 0 f.types g.types → P → Q → R) → Follows e g R
   follows h j both = (
-    grown_more e.types f.types g.types h.0 j.0,
+    later_more e f g h.0 j.0,
     λ few.
-        let before = h.1 (few_before f.types g.types j.0 few) in
+        let before = h.1 (few_before f.types g.types j.0.0 few) in
         let now = j.1 few in
-        (now.0, both before.0.told.types (grown_kept f.types g.types j.0) before.1 now.1),
+        (now.0, both before.0.told.types (grown_kept f.types g.types j.0.0) before.1 now.1),
   )
 
 -- what a type declares, and the type itself
@@ -47,8 +57,8 @@ SortTold e m = Follows e m.0 (Lies m.0.types m.1)
 abbrev pub IndexTold : Env → Made → Type 0
 IndexTold e m = Follows e m.0 (IsThere (HasSpan m.0.types) m.1)
 
-pub sort_later : (e f : Env) (m : Made) → Grown e.types f.types → SortTold f m → SortTold e m
-sort_later e f m grown h = (grown_more e.types f.types m.0.types grown h.0, h.1)
+pub sort_later : (e f : Env) (m : Made) → Later e f → SortTold f m → SortTold e m
+sort_later e f m later h = (later_more e f m.0 later h.0, h.1)
 
 -- what each step keeps where it finds no fault
 module _ {S X : Type 0} (P : S → Type 0) (f : S → X → S × List Row) (keeps : (s : S) (x : X) → P s → Right P (f s x)) where
@@ -65,7 +75,7 @@ module _ (e : Env) (begun : Begun e) where
   pub type_right : (p : Place) (form : TypeForm) → (Few e.types → MadeOf e.types form) → Right (SortTold e) (type_node e p form)
   unfolding type_node
   type_right p form made clear = (
-    grown,
+    (grown, (refl, refl)),
     λ few.
         let h : Declared e = begun (few_before e.types u grown few) in
         let parts = made (few_before e.types u grown few) in
@@ -80,7 +90,7 @@ module _ (e : Env) (begun : Begun e) where
       grown = added_grown e.types (own e.types) form
 
   pub form_right : (p : Place) (o : Option TypeForm) → (Few e.types → IsThere (MadeOf e.types) o) → Right (SortTold e) (form_node e p o)
-  form_right p None made clear = (grown_same e.types, λ few. absurd (made few))
+  form_right p None made clear = (later_same e, λ few. absurd (made few))
   form_right p (Some form) made clear = type_right p form made clear
 
   pub named_right : (q : Qualident) → Right (λ o. Few e.types → Lies e.types o) (type_named e q)
@@ -131,14 +141,14 @@ HasWords t count o = IsThere (λ n. (w : ℕ) → w < count → HasWord t n w) o
 
 -- the constants from one number on
 constants_right : (count : ℕ) (n : Option ℕ) (s : Env × ℕ) (is : List Ident) → (Few s.0.types → Declared s.0 × HasWords s.0.types count n × (count ≤ 65535) × (s.1 + length is ≤ count))
-    → Right (λ r. (r.0.types ≡ s.0.types) × (Few s.0.types → Declared r.0)) (walk (constant_step n) s is)
+    → Right (λ r. (r.0.types ≡ s.0.types) × ((r.0.procedures ≡ s.0.procedures) × (r.0.procedure ≡ s.0.procedure)) × (Few s.0.types → Declared r.0)) (walk (constant_step n) s is)
 unfolding after bind_at
-constants_right count n s [] h clear = (refl, λ few. (h few).0)
+constants_right count n s [] h clear = (refl, (refl, refl), λ few. (h few).0)
 constants_right count n s (i ∷ is) h clear = constants_right count n (constant_step n s i).0 is next (clear_right (constant_step n s i).1 (walk (constant_step n) (constant_step n s i).0 is).1 clear)
   where
     step : (n : Option ℕ) → Declared s.0 → HasWords s.0.types count n → s.1 < count → Declared (bind s.0 i (constant_thing n s.1)).0
     step None d words below = absurd words
-    step (Some n) d words below = bound_declared s.0 d s.0.scopes.inner i.name (names.entry (constant_thing (Some n) s.1) i.place) ((words s.1 below, tt), tt)
+    step (Some n) d words below = bound_declared s.0 d s.0.scopes.inner i.name (names.entry (constant_thing (Some n) s.1) i.place) ((words s.1 below, tt), (tt, tt))
 
     later : (w n count : ℕ) → count ≤ 65535 → w + suc n ≤ count → next_word w + n ≤ count
     later w n count few h = grind (arith, nat_tests)
@@ -171,8 +181,8 @@ words_right e begun p xs some clear few = (subst (HasWords u (length xs)) (sym n
 enumeration_right : (e : Env) → Begun e → (p : Place) (is : List Ident) → Right (SortTold e) (enumeration_means e p is)
 unfolding after names_node
 enumeration_right e begun p is clear = (
-  subst (λ t. Grown e.types t) (sym constants.0) typed.0,
-  λ few. let here : Few m.0.types = subst Few constants.0 few in (constants.1 here, subst (λ t. Lies t m.1) (sym constants.0) (typed.1 here).1),
+  (subst (λ t. Grown e.types t) (sym constants.0) typed.0.0, (constants.1.0 ∙ typed.0.1.0, constants.1.1 ∙ typed.0.1.1)),
+  λ few. let here : Few m.0.types = subst Few constants.0 few in (constants.2 here, subst (λ t. Lies t m.1) (sym constants.0) (typed.1 here).1),
 )
   where
     xs : List (List ℕ)
@@ -190,7 +200,10 @@ enumeration_right e begun p is clear = (
     typed : SortTold e m
     typed = type_right e begun p (form.Enumeration xs) (λ few. (some, refl)) clear_type
 
-    constants : ((walk (constant_step m.1) (m.0, 0) is).0.0.types ≡ m.0.types) × (Few m.0.types → Declared (walk (constant_step m.1) (m.0, 0) is).0.0)
+    last : Env
+    last = (walk (constant_step m.1) (m.0, 0) is).0.0
+
+    constants : (last.types ≡ m.0.types) × ((last.procedures ≡ m.0.procedures) × (last.procedure ≡ m.0.procedure)) × (Few m.0.types → Declared last)
     constants = constants_right (length xs) m.1 (m.0, 0) is
         (λ few. let words = words_right e begun p xs some clear_type few in ((typed.1 few).0, words.0, words.1, let same = length-map is (λ (i : Ident). i.name) in omega arith))
         (clear_left (walk (constant_step m.1) (m.0, 0) is).1 [] (clear_right (type_node e p (form.Enumeration xs)).1 _ clear.1))
@@ -212,7 +225,7 @@ expression_there e begun x clear few = asked_right e (nothing e.types e.variable
 -- ---- all forms
 pub simple_right : (e : Env) → Begun e → (x : Simple) → Right (SortTold e) (simple_means e x)
 unfolding simple_means
-simple_right e begun (simple.Named q) = after_right (λ o. Few e.types → Lies e.types o) (SortTold e) (type_named e q) _ (named_right e begun q) (λ o h clear. (grown_same e.types, λ few. (begun few, h few)))
+simple_right e begun (simple.Named q) = after_right (λ o. Few e.types → Lies e.types o) (SortTold e) (type_named e q) _ (named_right e begun q) (λ o h clear. (later_same e, λ few. (begun few, h few)))
 simple_right e begun (simple.Enumeration p is) = enumeration_right e begun p is
 simple_right e begun (simple.Subrange p q x y) =
     after_right (λ n. Few e.types → NamedTold e.types n) (SortTold e) (base_means e q) _ (named_base_right e begun q)

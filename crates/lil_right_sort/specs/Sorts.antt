@@ -18,7 +18,7 @@ use Rattle.lil_check_value.specs.Looks.{type_named, not_built}
 use Rattle.lil_check_type.specs.{declared.{records.Fields.Fields, labels.Labels.Labels}, Made.{Made, type_node, form_node, ordinal_node}, Simple.index_means, Labels.{no_labels, label_means, label_step}, Records.{no_fields, field_step, tag_field, tag_means, record_form, if_right, record_node}}
 use Rattle.lil_check_type.specs.Sorts.{index_step, array_form, array_step, array_means, with_wait, pointer_form, target_so_far, waiting_means, pointer_means, Sense, Part, Cased, FieldSense, VariantSense, fields_by, else_by, named_fields, variants_by, labelled, case_fields, field_layer, variant_layer, sense, fields_sense, variant_sense, fields_rolled, sort_rolled, variant_rolled, sort_layer, sort_means}
 use Rattle.lil_right_type.specs.{Right.{Right, IsThere, after_right, walk_right}, Types.{HasSpan, IsTold}, Found.ThingTold}
-use Rattle.lil_right_sort.specs.{Growth.{all_then, Few, few_before, grown_same, lies_stays, has_span_stays, span_lies, Kept, Declared, declared_waits}, Ranges.{HasBase, Numbered, span_base, MadeOf}, Labels.label_right, Simple.{Begun, Follows, follows, SortTold, IndexTold, sort_later, walk_keeps, type_right, form_right, named_right, ordinal_right, simple_right, index_right, set_right}}
+use Rattle.lil_right_sort.specs.{Growth.{all_then, Few, few_before, lies_stays, has_span_stays, span_lies, Kept, Declared, declared_waits}, Ranges.{HasBase, Numbered, span_base, MadeOf}, Labels.label_right, Simple.{Begun, Follows, later_same, follows, SortTold, IndexTold, sort_later, walk_keeps, type_right, form_right, named_right, ordinal_right, simple_right, index_right, set_right}}
 use Rattle.lil_right_value.specs.Names.{Lies, find_told}
 
 reversed : {A : Type 0} (P : A → Type 0) (xs ys : List A) → AllFine P xs → AllFine P ys → AllFine P (reverse_aux xs ys)
@@ -214,7 +214,7 @@ variant_layer_right y e n c h =
     after_right (λ ls. Few c.0.0.types → ls.right ≡ true) (CasedTold e n) (walk (label_step c.0.0 n) c.1 y.labels) _
     (labels_right c.0.0 n (λ few. ((h.1 few).0, (h.1 few).1.2)) c.1 y.labels (λ few. (h.1 few).1.1))
     (λ ls right. after_right (PartTold c.0.0) (CasedTold e n) (fields_by (map fields_sense (map (λ x. x.0) y.fields)) c.0) _
-    (fields_right (map fields_sense (map (λ x. x.0) y.fields)) (each_fielded y.fields) c.0.0 c.0 (grown_same c.0.0.types, λ few. ((h.1 few).0, (h.1 few).1.0)))
+    (fields_right (map fields_sense (map (λ x. x.0) y.fields)) (each_fielded y.fields) c.0.0 c.0 (later_same c.0.0, λ few. ((h.1 few).0, (h.1 few).1.0)))
     (λ q j clear. follows e c.0.0 q.0 (Before ls) _ _ (h.0, λ few. ((h.1 few).0, (right few, (h.1 few).1.2))) j (λ told kept before now. (now, before.0, span_stays c.0.0.types q.0.types told kept n before.1))))
   where
     Before : Labels → Type 0
@@ -228,7 +228,7 @@ abbrev meant : Sort-F FieldList Sort Variant → Sort-F FieldSense Sense Variant
 meant = map-Sort FieldList Sort Variant FieldSense Sense VariantSense fields_sense sense variant_sense
 
 indexes_right : (e : Env) → Begun e → (xs : List Simple) → Right (IndexesTold e) (walk index_step (e, []) xs)
-indexes_right e begun xs = walk_keeps (IndexesTold e) index_step step (e, []) xs (grown_same e.types, λ few. (begun few, tt))
+indexes_right e begun xs = walk_keeps (IndexesTold e) index_step step (e, []) xs (later_same e, λ few. (begun few, tt))
   where
     step : (s : Indexes) (x : Simple) → IndexesTold e s → Right (IndexesTold e) (index_step s x)
     step s x h = after_right (IndexTold s.0) (IndexesTold e) (index_means s.0 x) _ (index_right s.0 (λ few. (h.1 few).0) x)
@@ -242,9 +242,9 @@ array_right e begun p xs element right =
 
 record_right : (e : Env) → Begun e → (p : Place) (fs : List FieldSense) → AllFine FieldRight fs → Right (SortTold e) (after (fields_by fs (e, no_fields)) (λ q. record_node q.0 p q.1))
 record_right e begun p fs all =
-    after_right (PartTold e) (SortTold e) (fields_by fs (e, no_fields)) _ (fields_right fs all e (e, no_fields) (grown_same e.types, λ few. (begun few, (refl, refl, tt))))
+    after_right (PartTold e) (SortTold e) (fields_by fs (e, no_fields)) _ (fields_right fs all e (e, no_fields) (later_same e, λ few. (begun few, (refl, refl, tt))))
     (λ q h. after_right (SortTold q.0) (SortTold e) (form_node q.0 p (record_form q.1)) _ (form_right q.0 (λ few. (h.1 few).0) p (record_form q.1) (λ few. formed q.0.types q.1 (h.1 few).1))
-    (λ m j clear. sort_later e q.0 (m.0, if_right q.1.right m.1) h.0 (j.0, λ few. ((j.1 few).0, subst (λ c. Lies m.0.types (if_right c m.1)) (sym (h.1 (few_before q.0.types m.0.types j.0 few)).1.1) (j.1 few).1))))
+    (λ m j clear. sort_later e q.0 (m.0, if_right q.1.right m.1) h.0 (j.0, λ few. ((j.1 few).0, subst (λ c. Lies m.0.types (if_right c m.1)) (sym (h.1 (few_before q.0.types m.0.types j.0.0 few)).1.1) (j.1 few).1))))
   where
     formed : (t : Table) (fs : Fields) → FieldsTold t fs → IsThere (MadeOf t) (record_form fs)
     formed t fs h = subst (λ c. IsThere (MadeOf t) (if c then Some (form.Record fs.list) else None)) (sym h.0) (h.2, refl)

@@ -89,8 +89,8 @@ module _ (e : Env) {ts : Scope} (fits : Fits e.types e.variables e.withs ts) (to
       second false c h = h
 
       by : (x : Looked) → LookTold e told x → is_nothing x ≡ false → is_other x ≡ false → is_unfit e.types x ≡ false → IsThere IsCounter (counter_of e x)
-      by (l.Thing (t.Variable v)) h nothing other unfit = counts_with v h (span_of e.types v.sort) refl (is_so (Kinds.is_ordinal e.types (k.Of v.sort)) (second (not (is_plain v.mode)) _ unfit))
-      by (l.Thing t.Broken) h nothing other unfit = absurd h
+      by (l.Thing (t.Variable v)) h nothing other unfit = counts_with v h.0 (span_of e.types v.sort) refl (is_so (Kinds.is_ordinal e.types (k.Of v.sort)) (second (not (is_plain v.mode)) _ unfit))
+      by (l.Thing t.Broken) h nothing other unfit = absurd h.0
       by _ h nothing other unfit = cc
 
   module _ (c : Taken count_of) (h : IsCounter c) where

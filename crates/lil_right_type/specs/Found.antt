@@ -14,7 +14,7 @@ use Rattle.lil_resolved.specs.{Sizes.{place_depth, depth}, Sound.is_text, Views.
 use Rattle.lil_resolved.specs.declared.resolved.RBase.TheVariants as b
 use Rattle.lil_shapes.specs.{Bases.{base_at, kind_at}, ListLaws.AllFine, Operators.has_number, Pointers.lies_at}
 use Rattle.lil_forms.specs.Properties.{Property, nothing, value_kind}
-use Rattle.lil_right_type.specs.{Types.IsTold, Words.AreMeasured}
+use Rattle.lil_right_type.specs.{Homes.{Homed, Stands}, Types.IsTold, Words.AreMeasured}
 
 -- ---- kinds
 -- a base whose constants are told by their words
@@ -146,15 +146,17 @@ ThingTold types vs texts (t.Named n c) = (c.first ≤ 255) × ((cs : List ℕ) �
 ThingTold types vs texts t.Nil = Unit {0}
 ThingTold types vs texts (t.Variable v) = (v.level ≡ 1) × (v.mode ≡ Plain) × ((x : RVar) × (slice_get vs v.number ≡ Some x) × (x.sort ≡ v.sort)) × (lies_at types v.sort ≡ true)
 ThingTold types vs texts (t.Type s) = built (t.Type s) ≡ true → lies_at types s ≡ true
-ThingTold types vs texts (t.Procedure x) = ⊥
+ThingTold types vs texts (t.Procedure x) = (parameters types x.sort ≡ []) × (result types x.sort ≡ None)
 ThingTold types vs texts (t.Resident x s) = (parameters types s ≡ signature x) × (result types s ≡ None)
 ThingTold types vs texts (t.Standard x) = Unit {0}
 ThingTold types vs texts (t.Module b) = Unit {0}
 ThingTold types vs texts t.Hidden = Unit {0}
 ThingTold types vs texts t.Broken = ⊥
 
--- the names of all blocks and their types are told
+-- the names of all blocks and their types are told, and where procedures are declared
 pub record EnvTold (e : Env) : Type 0 where
   pub types : IsTold e.types
   pub words : AreMeasured e.types
   pub names : AllFine (AllFine (λ (x : List ℕ × Entry). ThingTold e.types e.variables e.texts x.1.thing)) e.scopes.blocks
+  pub homed : Homed e.scopes.blocks e.procedures
+  pub stands : Stands e.scopes.outer e.scopes.inner e.procedures e.procedure

@@ -1,5 +1,6 @@
 pub mod Folds
 pub mod Found
+pub mod Homes
 pub mod Parts
 pub mod Right
 pub mod Sound

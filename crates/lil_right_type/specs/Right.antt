@@ -40,6 +40,12 @@ pub clear_right : (rs ss : List Row) → Clear (rs ++ ss) → Clear ss
 clear_right [] ss h = h
 clear_right (r ∷ rs) ss h = clear_right rs ss h.1
 
+-- ---- what is true of all elements
+module _ {A : Type 0} (P Q : A → Type 0) where
+  pub all_then : ((x : A) → P x → Q x) → (xs : List A) → AllFine P xs → AllFine Q xs
+  all_then f [] h = tt
+  all_then f (x ∷ xs) h = (f x h.0, all_then f xs h.1)
+
 -- ---- tests of conditions
 pub is_so : (b : Bool) → not b ≡ false → b ≡ true
 is_so true h = refl

@@ -4,13 +4,13 @@ use Rattle.std.specs.Prelude.{nat_lt, slice_set}
 use Rattle.lil_base.specs.declared.fault.Place.{Place}
 use Rattle.lil_text.specs.declared.tree.{Ident.Ident, Qualident.Qualident}
 use Rattle.lil_types.specs.Types.{Table}
-use Rattle.lil_scope.specs.{declared.{env.Env.Env, scope.Scopes.Scopes, thing.{Entry.Entry, Thing.Thing}}, Built.built, Names.{Names, same, entry_in, thing_of, look_in, inner_or, block_at, find_in, find, member, is_new, bound, bound_at}}
+use Rattle.lil_scope.specs.{declared.{env.Env.Env, scope.Scopes.Scopes, thing.{Entry.Entry, Thing.Thing}}, Built.built, Names.{Names, same, entry_in, thing_of, look_in, inner_or, block_at, find_in, find, member, is_new, bound, bound_at, chain}}
 use Rattle.lil_scope.specs.declared.thing.Thing.TheVariants as thing
 use Rattle.lil_shapes.specs.{Bases.field_at, ListLaws.AllFine, Pointers.lies_at}
 use Rattle.lil_forms.specs.Scopes.{fine_more}
 use Rattle.lil_kinds.specs.{Forms.field, declared.forms.FieldAt.FieldAt}
 use Rattle.lil_check_value.specs.{declared.names.Looked.{Looked, TheVariants.{Nothing, Field, Thing as Named}}, Looks.{nearer, in_withs, nearest, looked_as, or_declared, look, type_node, module_node, member_type, type_by, type_named}}
-use Rattle.lil_right_type.specs.{Right.{Right, IsThere, after_right, is_so}, Found.{ThingTold, EnvTold}, Parts.field_is}
+use Rattle.lil_right_type.specs.{Right.{Right, IsThere, after_right, is_so}, Found.{ThingTold, EnvTold}, Homes.{IsModule, Seen, found_procedure, found_module, member_procedure}, Parts.field_is}
 
 -- ---- what is true of all things that names stand for
 module _ (P : Thing → Type 0) where
@@ -77,28 +77,44 @@ first n = omega arith
 abbrev pub Lies : Table → Option ℕ → Type 0
 Lies t o = IsThere (λ n. lies_at t n ≡ true) o
 
-abbrev IsModule : Option ℕ → Type 0
-IsModule o = IsThere (λ (k : ℕ). Unit {0}) o
-
 module _ (e : Env) where
   abbrev pub Told : Thing → Type 0
   Told x = ThingTold e.types e.variables e.texts x
+
+  -- and what it is to the procedure at hand
+  abbrev pub SeenTold : Thing → Type 0
+  SeenTold x = Told x × Seen e.procedures (chain e) e x
 
   module _ (told : EnvTold e) where
     -- ---- what a name stands for
     pub find_told : (n : List ℕ) → IfSome (find e.scopes n) Told
     find_told n = find_is Told e.scopes n told.names
 
-    pub member_told : (k : ℕ) (n : List ℕ) → IfSome (member e.scopes k n) Told
-    member_told k n = member_is Told e.scopes k n told.names
+    pub find_seen : (n : List ℕ) → IfSome (find e.scopes n) SeenTold
+    find_seen n = by (find e.scopes n) refl (find_told n)
+      where
+        by : (o : Option Thing) → find e.scopes n ≡ o → IfSome o Told → IfSome o SeenTold
+        by None is h = tt
+        by (Some (thing.Procedure r)) is h = (h, found_procedure e.scopes.blocks e.procedures told.homed e.scopes refl e.procedure told.stands n r is)
+        by (Some (thing.Module b)) is h = (h, found_module e.scopes.blocks e.procedures told.homed e.scopes refl e.procedure told.stands n b is)
+        by (Some _) is h = (h, tt)
+
+    pub member_seen : (k : ℕ) → IsModule (length e.scopes.blocks) e.procedures k → (n : List ℕ) → IfSome (member e.scopes k n) SeenTold
+    member_seen k m n = by (member e.scopes k n) refl (member_is Told e.scopes k n told.names)
+      where
+        by : (o : Option Thing) → member e.scopes k n ≡ o → IfSome o Told → IfSome o SeenTold
+        by None is h = tt
+        by (Some (thing.Procedure r)) is h = (h, member_procedure e.scopes.blocks e.procedures told.homed e.scopes refl e.procedure told.stands k n r m is)
+        by (Some (thing.Module b)) is h = (h, told.homed.modules k n b is)
+        by (Some _) is h = (h, tt)
 
     -- where it is looked for in the records of WITH too
     abbrev pub LookTold : Looked → Type 0
     LookTold Nothing = Unit {0}
     LookTold (Field w f s) = (r : ℕ) × (slice_get e.withs w ≡ Some r) × (field_at e.types r f ≡ Some s) × (lies_at e.types s ≡ true)
-    LookTold (Named x) = Told x
+    LookTold (Named x) = SeenTold x
 
-    pub looked_told : (o : Option Thing) → IfSome o Told → LookTold (looked_as o)
+    pub looked_told : (o : Option Thing) → IfSome o SeenTold → LookTold (looked_as o)
     looked_told None h = tt
     looked_told (Some x) h = h
 
@@ -117,7 +133,7 @@ module _ (e : Env) where
             (nearer_told number w (field e.types w n) outer (ap (slice_get e.withs) (sym (first number)) ∙ behind 0 w refl) refl h)
 
         or_told : (l : Looked) → LookTold l → LookTold (or_declared l (find e.scopes n))
-        or_told Nothing h = looked_told (find e.scopes n) (find_told n)
+        or_told Nothing h = looked_told (find e.scopes n) (find_seen n)
         or_told (Field w f s) h = h
         or_told (Named x) h = h
 
@@ -126,28 +142,31 @@ module _ (e : Env) where
     unfolding type_node
     node_lies at p Nothing h clear = absurd (true≢false clear.0)
     node_lies at p (Field w f s) h clear = absurd (true≢false clear.1.1.0)
-    node_lies at p (Named (thing.Type s)) h clear = h (is_so (built (thing.Type s)) clear.1.1.1.0)
+    node_lies at p (Named (thing.Type s)) h clear = h.0 (is_so (built (thing.Type s)) clear.1.1.1.0)
     node_lies at p (Named thing.Hidden) h clear = absurd (true≢false clear.1.0)
-    node_lies at p (Named thing.Broken) h clear = absurd h
+    node_lies at p (Named thing.Broken) h clear = absurd h.0
     node_lies at p (Named _) h clear = absurd (true≢false clear.1.1.0)
 
-    module_there : (p : Place) (l : Looked) → LookTold l → Right IsModule (module_node p l)
+    abbrev IsThereModule : Option ℕ → Type 0
+    IsThereModule o = IsThere (IsModule (length e.scopes.blocks) e.procedures) o
+
+    module_there : (p : Place) (l : Looked) → LookTold l → Right IsThereModule (module_node p l)
     unfolding module_node
     module_there p Nothing h clear = absurd (true≢false clear.0)
     module_there p (Field w f s) h clear = absurd (true≢false clear.1.1.0)
-    module_there p (Named (thing.Module k)) h clear = tt
+    module_there p (Named (thing.Module k)) h clear = h.1
     module_there p (Named thing.Hidden) h clear = absurd (true≢false clear.1.0)
-    module_there p (Named thing.Broken) h clear = absurd h
+    module_there p (Named thing.Broken) h clear = absurd h.0
     module_there p (Named _) h clear = absurd (true≢false clear.1.1.0)
 
     pub named_lies : (q : Qualident) → Right (Lies e.types) (type_named e q)
     unfolding type_named
     named_lies q = by q.owner q.name
       where
-        member_lies : (at : Place) (x : Ident) (o : Option ℕ) → IsModule o → Right (Lies e.types) (member_type e at x o)
+        member_lies : (at : Place) (x : Ident) (o : Option ℕ) → IsThereModule o → Right (Lies e.types) (member_type e at x o)
         member_lies at x None h = absurd h
-        member_lies at x (Some k) h = node_lies at x.place (looked_as (member e.scopes k x.name)) (looked_told (member e.scopes k x.name) (member_told k x.name))
+        member_lies at x (Some k) h = node_lies at x.place (looked_as (member e.scopes k x.name)) (looked_told (member e.scopes k x.name) (member_seen k h x.name))
 
         by : (o : Option Ident) (x : Ident) → Right (Lies e.types) (type_by e o x)
         by None x = node_lies x.place x.place (look e x.name) (look_told x.name)
-        by (Some m) x = after_right IsModule (Lies e.types) (module_node m.place (look e m.name)) (member_type e m.place x) (module_there m.place (look e m.name) (look_told m.name)) (member_lies m.place x)
+        by (Some m) x = after_right IsThereModule (Lies e.types) (module_node m.place (look e m.name)) (member_type e m.place x) (module_there m.place (look e m.name) (look_told m.name)) (member_lies m.place x)

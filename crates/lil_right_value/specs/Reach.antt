@@ -1,11 +1,11 @@
 -- What designators reach is told, and so is what is used of it.
-use Rattle.std.proofs.Common.{◌≡◌, ℕ, ◌+◌, ◌≤◌, Bool, true, false, not, ◌&&◌, List, [], slice_get, Option, Some, None, if◌then◌else◌, refl, sym, ap, subst, ◌∙◌, arith, true≢false}
+use Rattle.std.proofs.Common.{◌≡◌, ℕ, ◌+◌, ◌≤◌, Bool, true, false, not, ◌&&◌, List, [], length, slice_get, Option, Some, None, IfSome, if◌then◌else◌, refl, sym, ap, subst, ◌∙◌, arith, true≢false}
 use Rattle.std.specs.Prelude.{◌==◌, max, is_none}
 use Rattle.lil_base.specs.declared.fault.{Place.Place, FaultKind.{FaultKind, TheVariants.{NotRecord, NotPointer}}}
 use Rattle.lil_text.specs.declared.tree.Ident.{Ident}
 use Rattle.lil_types.specs.Types.{Table}
 use Rattle.lil_declared.specs.declared.declared.RVar.{RVar}
-use Rattle.lil_scope.specs.{Built.built, Names.{member, waits_for}, declared.{env.Env.Env, thing.{Thing.Thing, Variable.Variable}}}
+use Rattle.lil_scope.specs.{Built.built, Names.{member, waits_for, chain}, declared.{env.Env.Env, thing.{Thing.Thing, Variable.Variable}}}
 use Rattle.lil_scope.specs.declared.thing.Kind.TheVariants as k
 use Rattle.lil_scope.specs.declared.thing.Thing.TheVariants as t
 use Rattle.lil_kinds.specs.{Forms.{array_parts, field, is_record, target}, Kinds.{assignable, misses}, declared.{forms.FieldAt.FieldAt, found.{Found.Found, Located.Located, Standing.Standing}}}
@@ -20,11 +20,11 @@ use Rattle.lil_forms.specs.Places as places
 use Rattle.lil_call.specs.declared.call.Argument.TheVariants as argument
 use Rattle.lil_operators.specs.Operations.{raised}
 use Rattle.lil_check_value.specs.{declared.{designators.{Named.Named, Part.Part, Reached.Reached}, names.Looked.{Looked, TheVariants.{Nothing, Field, Thing as Declared}}}, Looks.{look, looked_as, is_hidden_thing}}
-use Rattle.lil_check_value.specs.Designators.{variable_place, kind_by, whole_part, thing_reached, held_field, name_node, root_means, is_misplaced, refused_rows, record_kind, field_of, field_found, field_value, part_field, module_block, other_field_by, other_field, field_node, parts_of, with_index, index_fits, element_found, element_value, index_rows, part_index, other_index, index_node, opaque_kind, target_of, target_found, target_value, part_follow, is_waiting, reached_follow, other_follow, follow_node, located_form, part_found, no_value, text_form, thing_found, named_value, value_node, variable_node, part_callee, thing_callee, callee_node, type_in, no_type_in, part_typed, typed_node}
+use Rattle.lil_check_value.specs.Designators.{variable_place, kind_by, whole_part, thing_reached, held_field, name_node, root_means, is_misplaced, refused_rows, record_kind, field_of, field_found, field_value, part_field, module_block, other_field_by, other_field, field_node, parts_of, with_index, index_fits, element_found, element_value, index_rows, part_index, other_index, index_node, opaque_kind, target_of, target_found, target_value, part_follow, is_waiting, reached_follow, other_follow, follow_node, located_form, part_found, no_value, is_procedure, text_form, thing_found, named_value, value_node, variable_node, part_callee, thing_callee, callee_node, type_in, no_type_in, part_typed, typed_node}
 use Rattle.lil_check_value.specs.declared.designators.Reached.TheVariants as reached
 use Rattle.lil_right_call.specs.Told.{ArgumentTold, CalleeTold}
-use Rattle.lil_right_type.specs.{Found.{KindTold, LiesAt, GoesWith, bare, IsLocated, HasPlace, IsFound, ThingTold, EnvTold}, Parts.{IsArray, IsPointer, array_is, field_is, target_is, never_opaque}, Right.{Clear, Right, IsThere, IsThereOr, there_or, is_so}, Typed.{Suits, kept_if, assignable_stores, stores_suits}, Types.{IsOrdinal, known_ordinal}}
-use Rattle.lil_right_value.specs.{Names.{LookTold, look_told, looked_told, member_told}, Operators.{IsRaised, raised_is}}
+use Rattle.lil_right_type.specs.{Found.{KindTold, LiesAt, GoesWith, bare, IsLocated, HasPlace, IsFound, ThingTold, EnvTold}, Homes.{IsModule, IsSeen, Seen}, Parts.{IsArray, IsPointer, array_is, field_is, target_is, never_opaque}, Right.{Clear, Right, IsThere, IsThereOr, there_or, is_so}, Typed.{Suits, kept_if, assignable_stores, stores_suits}, Types.{IsOrdinal, known_ordinal}}
+use Rattle.lil_right_value.specs.{Names.{SeenTold, LookTold, look_told, looked_told, member_seen}, Operators.{IsRaised, raised_is}}
 
 -- ---- depths of places
 root_depth : (r : RRoot) (s : ℕ) → place_depth (place_of (at_root r s).place) ≡ 1
@@ -87,7 +87,11 @@ is_other _ = true
 
 module _ (e : Env) (P : Property e.types e.variables e.withs) (told : EnvTold e) where
   abbrev pub NamedTold : Thing → Type 0
-  NamedTold x = ThingTold e.types e.variables e.texts x × (built x ≡ true) × (is_other x ≡ true)
+  NamedTold x = ThingTold e.types e.variables e.texts x × (built x ≡ true) × (is_other x ≡ true) × Seen e.procedures (chain e) e x
+
+  -- calls of procedures that are seen here
+  abbrev pub Called : ℕ → ℕ → Type 0
+  Called n levels = IsSeen e.procedures (chain e) n levels
 
   abbrev pub ReachedTold : Reached → Type 0
   ReachedTold (reached.Part a) = PartTold P a
@@ -107,18 +111,18 @@ module _ (e : Env) (P : Property e.types e.variables e.withs) (told : EnvTold e)
       at_most : {n : ℕ} → n ≡ 1 → n ≤ 1 + 1
       at_most is = omega (arith, is)
 
-  named_told : (p q : Place) (x : Thing) → ThingTold e.types e.variables e.texts x → built x ≡ true → is_hidden_thing x ≡ false → IsThere ReachedTold (thing_reached e p q x)
-  named_told p q (t.Variable v) h is seen = variable_told p q v h
+  named_told : (p q : Place) (x : Thing) → SeenTold e x → built x ≡ true → is_hidden_thing x ≡ false → IsThere ReachedTold (thing_reached e p q x)
+  named_told p q (t.Variable v) h is seen = variable_told p q v h.0
   named_told p q t.Hidden h is seen = absurd (true≢false seen)
-  named_told p q t.Broken h is seen = absurd h
-  named_told p q (t.Constant c) h is seen = (h, is, refl)
-  named_told p q (t.Named n c) h is seen = (h, is, refl)
-  named_told p q t.Nil h is seen = (h, is, refl)
-  named_told p q (t.Type s) h is seen = (h, is, refl)
-  named_told p q (t.Procedure x) h is seen = absurd h
-  named_told p q (t.Resident x s) h is seen = (h, is, refl)
-  named_told p q (t.Standard x) h is seen = (h, is, refl)
-  named_told p q (t.Module n) h is seen = (h, is, refl)
+  named_told p q t.Broken h is seen = absurd h.0
+  named_told p q (t.Constant c) h is seen = (h.0, is, refl, h.1)
+  named_told p q (t.Named n c) h is seen = (h.0, is, refl, h.1)
+  named_told p q t.Nil h is seen = (h.0, is, refl, h.1)
+  named_told p q (t.Type s) h is seen = (h.0, is, refl, h.1)
+  named_told p q (t.Procedure x) h is seen = (h.0, is, refl, h.1)
+  named_told p q (t.Resident x s) h is seen = (h.0, is, refl, h.1)
+  named_told p q (t.Standard x) h is seen = (h.0, is, refl, h.1)
+  named_told p q (t.Module n) h is seen = (h.0, is, refl, h.1)
 
   field_told : (s d i f : ℕ) (o : Option Located) → field_at e.types s i ≡ Some f → IsThere (LiesAt P s d) o → IsThere (LiesAt P f d) (places.field_of e.types i o)
   field_told s d i f None at h = h
@@ -167,11 +171,15 @@ module _ (e : Env) (P : Property e.types e.variables e.withs) (told : EnvTold e)
 
   other_field_right : (dot : Place) (x : Ident) (o : Named) → NamedTold o.thing → Right (IsThere ReachedTold) (other_field e dot x o)
   unfolding other_field
-  other_field_right dot x o h = by (module_block o.thing)
+  other_field_right dot x o h = by (module_block o.thing) (its_block o.thing h.3)
     where
-      by : (b : Option ℕ) → Right (IsThere ReachedTold) (other_field_by e dot x o b)
-      by (Some b) clear = name_right o.first o.name x.place (looked_as (member e.scopes b x.name)) (looked_told e told (member e.scopes b x.name) (member_told e told b x.name)) clear
-      by None clear = refused o dot NotRecord clear
+      its_block : (y : Thing) → Seen e.procedures (chain e) e y → IfSome (module_block y) (IsModule (length e.scopes.blocks) e.procedures)
+      its_block (t.Module b) j = j
+      its_block _ j = tt
+
+      by : (b : Option ℕ) → IfSome b (IsModule (length e.scopes.blocks) e.procedures) → Right (IsThere ReachedTold) (other_field_by e dot x o b)
+      by (Some b) j clear = name_right o.first o.name x.place (looked_as (member e.scopes b x.name)) (looked_told e told (member e.scopes b x.name) (member_seen e told b j x.name)) clear
+      by None j clear = refused o dot NotRecord clear
 
   pub field_right : (dot : Place) (x : Ident) (o : Option Reached) → IsThere ReachedTold o → Right (IsThere ReachedTold) (field_node e dot x o)
   field_right dot x None h clear = h
@@ -285,20 +293,20 @@ module _ (e : Env) (P : Property e.types e.variables e.withs) (told : EnvTold e)
   -- ---- uses
   thing_right : (o : Named) → NamedTold o.thing → Right (IsThere (IsFound P)) (named_value e.texts o)
   unfolding named_value
-  thing_right o h clear = by o.thing h clear.0 clear.1.0
+  thing_right o h clear = by o.thing h clear.0 clear.1.0 clear.1.1.0
     where
-      by : (x : Thing) → NamedTold x → is_misplaced x ≡ false → no_value x ≡ false → IsThere (IsFound P) (thing_found e.texts o.first x)
-      by (t.Constant kind) h c d = record { kind = h.0.0; form = bare P 1 kind _ h.0.1; place = tt; some = omega arith; few = omega arith }
-      by (t.Named n chars) h c d = record { kind = h.0.0; form = subst (λ o. GoesWith P 1 (k.Chars chars) (text_form o)) (sym h.0.1.1) h.0.1.2; place = tt; some = omega arith; few = omega arith }
-      by t.Nil h c d = record { kind = tt; form = tt; place = tt; some = omega arith; few = omega arith }
-      by (t.Variable v) h c d = absurd (true≢false (sym h.2))
-      by (t.Type s) h c d = absurd (true≢false c)
-      by (t.Procedure x) h c d = absurd h.0
-      by (t.Resident x s) h c d = absurd (true≢false d)
-      by (t.Standard x) h c d = absurd (true≢false d)
-      by (t.Module n) h c d = absurd (true≢false c)
-      by t.Hidden h c d = absurd (true≢false (sym h.2))
-      by t.Broken h c d = absurd h.0
+      by : (x : Thing) → NamedTold x → is_misplaced x ≡ false → no_value x ≡ false → is_procedure x ≡ false → IsThere (IsFound P) (thing_found e.texts o.first x)
+      by (t.Constant kind) h c d u = record { kind = h.0.0; form = bare P 1 kind _ h.0.1; place = tt; some = omega arith; few = omega arith }
+      by (t.Named n chars) h c d u = record { kind = h.0.0; form = subst (λ o. GoesWith P 1 (k.Chars chars) (text_form o)) (sym h.0.1.1) h.0.1.2; place = tt; some = omega arith; few = omega arith }
+      by t.Nil h c d u = record { kind = tt; form = tt; place = tt; some = omega arith; few = omega arith }
+      by (t.Variable v) h c d u = absurd (true≢false (sym h.2))
+      by (t.Type s) h c d u = absurd (true≢false c)
+      by (t.Procedure x) h c d u = absurd (true≢false u)
+      by (t.Resident x s) h c d u = absurd (true≢false d)
+      by (t.Standard x) h c d u = absurd (true≢false d)
+      by (t.Module n) h c d u = absurd (true≢false c)
+      by t.Hidden h c d u = absurd (true≢false (sym h.2))
+      by t.Broken h c d u = absurd h.0
 
   pub value_right : (o : Option Reached) → IsThere ReachedTold o → Right (IsThere (IsFound P)) (value_node e.texts o)
   value_right None h clear = h
@@ -310,22 +318,22 @@ module _ (e : Env) (P : Property e.types e.variables e.withs) (told : EnvTold e)
   variable_right (Some (reached.Part a)) h clear = part_told P a h
   variable_right (Some (reached.Other o)) h clear = absurd (true≢false clear.0)
 
-  callee_told : (x : Thing) → NamedTold x → is_misplaced x ≡ false → IsThere (CalleeTold e.types) (thing_callee x)
+  callee_told : (x : Thing) → NamedTold x → is_misplaced x ≡ false → IsThere (CalleeTold e.types Called) (thing_callee e x)
   callee_told (t.Constant kind) h c = tt
   callee_told (t.Named n chars) h c = tt
   callee_told t.Nil h c = tt
   callee_told (t.Variable v) h c = absurd (true≢false (sym h.2))
   callee_told (t.Type s) h c = absurd (true≢false c)
-  callee_told (t.Procedure x) h c = absurd h.0
+  callee_told (t.Procedure x) h c = (h.0, h.3)
   callee_told (t.Resident x s) h c = (h.0.0, h.0.1, h.1)
   callee_told (t.Standard x) h c = h.1
   callee_told (t.Module n) h c = absurd (true≢false c)
   callee_told t.Hidden h c = absurd (true≢false (sym h.2))
   callee_told t.Broken h c = absurd h.0
 
-  pub called_right : (o : Option Reached) → IsThere ReachedTold o → Right (IsThere (CalleeTold e.types)) (callee_node o)
+  pub called_right : (o : Option Reached) → IsThere ReachedTold o → Right (IsThere (CalleeTold e.types Called)) (callee_node e o)
   called_right None h clear = h
-  called_right (Some (reached.Part a)) h clear = subst (λ kind. CalleeTold e.types (part_callee kind a)) (sym h.is) h.lies
+  called_right (Some (reached.Part a)) h clear = subst (λ kind. CalleeTold e.types Called (part_callee kind a)) (sym h.is) h.lies
   called_right (Some (reached.Other o)) h clear = callee_told o.thing h clear.0
 
   type_told : (p : Place) (x : Thing) → NamedTold x → no_type_in x ≡ false → ArgumentTold P (argument.Type p (type_in x))

@@ -1,11 +1,12 @@
 -- What names stand for in a list of blocks. A block is a list of names, in the order of declaration, each with what it stands for
 -- and the place where it is bound.
-use Rattle.std.specs.Prelude.{ℕ, is_none, slice_get, slice_set, nat_lt, length, Bool, not, List, [], ◌∷◌, ◌++◌, Option, Some, None, if◌then◌else◌, nat_eq, ◌==◌, ◌&&◌}
+use Rattle.std.specs.Prelude.{ℕ, ◌+◌, ◌-◌, is_none, slice_get, slice_set, nat_lt, length, Bool, not, List, [], ◌∷◌, ◌++◌, Option, Some, None, if◌then◌else◌, nat_eq, ◌==◌, ◌&&◌}
 use Rattle.std.specs.{Cmp.Lexicographic.pointwise, List.list_any}
 use Rattle.lil_base.specs.declared.fault.{Place.Place, FaultKind.TheVariants.Twice}
 use Rattle.lil_text.specs.declared.tree.Ident.{Ident}
 use Rattle.lil_report.specs.Told.{Row, row}
-use Rattle.lil_scope.specs.declared.{thing.{Entry.Entry, Thing.Thing}, env.{Env.Env, Wait.Wait}, scope.Scopes.Scopes}
+use Rattle.lil_declared.specs.declared.declared.RProc.{RProc}
+use Rattle.lil_scope.specs.declared.{thing.{Entry.Entry, Thing.Thing}, entering.Around.Around, env.{Env.Env, Wait.Wait}, scope.Scopes.Scopes}
 
 abbrev pub same : List ℕ → List ℕ → Bool
 same a b = pointwise nat_eq a b
@@ -119,9 +120,41 @@ with_block e = with_blocks e (e.scopes.blocks ++ [] ∷ [])
 abbrev pub level : Env → ℕ
 level e = length e.scopes.outer
 
-abbrev pub inside : ℕ → Option ℕ → Env → Env
-inside k p e = record e { scopes = record e.scopes { outer = e.scopes.outer ++ e.scopes.inner ∷ []; inner = k }; coming = []; withs = []; procedure = p }
+-- the blocks around the one at hand, and that too, the outermost first
+abbrev pub visible : Env → List ℕ
+visible e = e.scopes.outer ++ e.scopes.inner ∷ []
+
+-- the block of a procedure, where it has a number
+abbrev pub inside : ℕ → Option RProc → Env → Env
+inside n None e = record e { coming = []; withs = [] }
+inside n (Some q) e = record e { scopes = record e.scopes { outer = q.outer; inner = q.block }; coming = []; withs = []; procedure = Some n }
+
+abbrev pub entered : ℕ → Env → Env
+entered n e = inside n (slice_get e.procedures n) e
 
 -- what was declared inside, and the block at hand as it was in e
 abbrev pub outside : Env → Env → Env
 outside e f = record f { scopes = record f.scopes { outer = e.scopes.outer; inner = e.scopes.inner }; coming = e.coming; withs = e.withs; procedure = e.procedure }
+
+-- what stands around a block, and the block at hand again
+abbrev pub around : Env → Around
+around e = record { outer = e.scopes.outer; inner = e.scopes.inner; coming = e.coming; withs = e.withs; procedure = e.procedure }
+
+abbrev pub back : Around → Env → Env
+back a f = record f { scopes = record f.scopes { outer = a.outer; inner = a.inner }; coming = a.coming; withs = a.withs; procedure = a.procedure }
+
+-- ---- calls: the procedure at hand and those around it by their numbers, the innermost first
+abbrev pub around_of : Option RProc → List ℕ
+around_of None = []
+around_of (Some q) = q.around
+
+abbrev pub chain_by : List RProc → Option ℕ → List ℕ
+chain_by ps None = []
+chain_by ps (Some n) = n ∷ around_of (slice_get ps n)
+
+abbrev pub chain : Env → List ℕ
+chain e = chain_by e.procedures e.procedure
+
+-- how many procedures out of the one at hand another one is declared, by its level: 0 for those of the module
+abbrev pub levels_out : Env → ℕ → ℕ
+levels_out e at = if nat_lt 1 at then level e + 1 - at else 0

@@ -3,6 +3,7 @@
 
 mod built;
 mod coming;
+mod entering;
 mod env;
 mod names;
 mod scope;
@@ -10,6 +11,7 @@ mod thing;
 
 pub use built::is_built;
 pub use coming::Coming;
+pub use entering::{Around, chain, enter, leave, levels_out, visible};
 pub use env::{Env, Wait, Waits, Withs};
 pub use names::{bind, bind_at, find_in, is_later, waits_for};
 pub use scope::{Block, Blocks, Scopes};

@@ -11,19 +11,19 @@ use Rattle.lil_table.specs.Rows.{Translates}
 use Rattle.lil_match.specs.Running.{Finish, Running, TrappedBy, Limited, mrun, running}
 use Rattle.lil_laws.specs.{Loading.{IsSpent, loaded}, Whole.claimed, Alone.{loaded_state, correct}}
 
-module _ (p : Resolved) (code : List ℕ) (small : IsSmall p (module_strings p)) (t : Translates p (module_strings p) code) (bare : p.procedures ≡ []) (steps : ℕ) (old new : Option (List ℕ)) (w : World) where
+module _ (p : Resolved) (entries code : List ℕ) (small : IsSmall p (module_strings p)) (t : Translates p (module_strings p) entries code) (steps : ℕ) (old new : Option (List ℕ)) (w : World) where
   abbrev start : State
-  start = (loaded p (module_strings p) code).state
+  start = (loaded p (module_strings p) entries code).state
 
   -- the state of the meaning that the run has come to
   abbrev so_far : ℕ
-  so_far = (correct p (module_strings p) code small t bare w steps).n
+  so_far = (correct p (module_strings p) entries code small t w steps).n
 
   -- a limit comes only where that state comes to it
   spent_at : (k : LimitKind) → (mrun steps (running start w)).finish ≡ Limited k → IsSpent p (module_strings p) k (state_of p w so_far)
   spent_at k is =
-      let same = ap (λ (s : State). (mrun steps (running s w)).finish) (loaded_state p (module_strings p) code small t bare) in
-      claimed (Limited k) (correct p (module_strings p) code small t bare w steps).agrees (sym same ∙ is)
+      let same = ap (λ (s : State). (mrun steps (running s w)).finish) (loaded_state p (module_strings p) entries code small t) in
+      claimed (Limited k) (correct p (module_strings p) entries code small t w steps).agrees (sym same ∙ is)
 
   same_limit : (k j : LimitKind) → a.Limit k ≡ a.Limit j → Limited k ≡ Limited j
   same_limit k j is = cc
@@ -32,6 +32,7 @@ module _ (p : Resolved) (code : List ℕ) (small : IsSmall p (module_strings p))
   ran_all : (end : State) (f : Finish) (s : Status) → HasRun start end steps f old new w → FinishAnswers s steps steps f → (f ≡ Running → settled s ≡ true → s ≡ a.StepsSpent) → ((k : LimitKind) → s ≡ a.Limit k → f ≡ Limited k) → s ≢ a.ScreenFault
       → MachineRan p w so_far steps old new s
   ran_all end f s ran fits spent full no_cut = record {
+    entries = entries;
     code = code;
     translates = t;
     done = steps;
@@ -61,6 +62,7 @@ module _ (p : Resolved) (code : List ℕ) (small : IsSmall p (module_strings p))
   -- a run that the screen stopped: its request failed
   pub machine_cut : (n : ℕ) → IsCut start steps old new w → MachineAnswers p w n steps old new a.ScreenFault
   machine_cut n cut = record {
+    entries = entries;
     code = code;
     translates = t;
     done = cut.done;
@@ -88,6 +90,7 @@ module _ (p : Resolved) (w : World) (n steps : ℕ) (old new : Option (List ℕ)
   -- memory is wanted for the lines of a trap alone: those of Done, of a limit and of a spent budget are fixed
   pub ran_memory : (s : Status) → is_fixed s ≡ false → MachineAnswers p w n steps old new s → MachineRan p w n steps old new a.Memory
   ran_memory (a.Trapped t) made ran = record {
+    entries = ran.entries;
     code = ran.code;
     translates = ran.translates;
     done = ran.done;

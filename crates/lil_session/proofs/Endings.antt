@@ -1,5 +1,5 @@
 -- What the run of a translation shows, and how it ends.
-use Rattle.std.proofs.Common.{◌≡◌, ◌≢◌, ℕ, zero, suc, ◌+◌, ◌*◌, true, ◌<◌, ◌≤◌, Option, Some, None, List, [], ◌∷◌, ◌++◌, refl, sym, ap, ◌∙◌, subst, ◌⊎◌, inl, inr, arith, append_assoc}
+use Rattle.std.proofs.Common.{◌≡◌, ◌≢◌, ℕ, zero, suc, ◌+◌, ◌*◌, true, ◌<◌, ◌≤◌, Option, Some, None, List, [], ◌∷◌, ◌++◌, refl, sym, ap, ◌∙◌, subst, ◌⊎◌, inl, inr, ⊎_elim, arith, append_assoc}
 use Rattle.std.proofs.lemmas.{Bool.cases_lt, List.{append-nil, append_cancel_left}, Option.same_Some}
 use Rattle.std.specs.{Ordering.nat_cmp, Cmp.Lexicographic.slice_cmp, FinMap.from_entries}
 use Rattle.lil_base.specs.declared.fault.{LimitKind.LimitKind, TrapKind.TrapKind, TrapAt.TrapAt}
@@ -12,8 +12,10 @@ use Rattle.lil_session.specs.{declared.{run.Ending.Ending, status.Status.Status}
 use Rattle.lil_session.specs.declared.run.Ending.TheVariants as ending
 use Rattle.lil_session.specs.declared.status.Status.TheVariants as a
 use Rattle.lil_table.specs.Rows.{Translates}
+use Rattle.lil_base.specs.declared.fault.LimitKind.TheVariants as limit
+use Rattle.lil_match.specs.Goes.{IsApart}
 use Rattle.lil_match.specs.Running.{Finish, Running, Finished, TrappedBy, Limited, Broken, Run, mrun, running, react, advanced, unless_over}
-use Rattle.lil_laws.specs.{Loading.body_alone, Whole.{TrapsIn, claimed, mrun_add}, Reaching.Reaches, Alone.{table, own, own_traps, begins, loaded_state, store_alone, correct, reached, alone_traps}}
+use Rattle.lil_laws.specs.{Loading.IsSpent, Whole.{TrapsIn, claimed, mrun_add}, Reaching.Reaches, Alone.{table, own, own_traps, begins, loaded_state, correct, reached, alone_traps}}
 use Rattle.lil_session.proofs.{Screens.{next_piece, later_grows}, Pieces.nothing_first, Cuts.{later_grown, ends_later, whole_piece}, Enough.enough, Counting.{machine_end, machine_cut}}
 
 -- some world in which nothing was shown
@@ -31,76 +33,83 @@ refused_adds run goes refused =
     ∙ ap (λ (r : Event × State). (react r.0 r.1 run).world.screen) refused.step
     ∙ ap (λ (l : List ℕ). run.world.screen ++ l) (sym refused.its)
 
--- the one procedure of a body alone runs at each place
-alone_runs : (place q : ℕ) → IsRunning body_alone place q → q ≡ 0
-alone_runs place zero r = refl
-alone_runs place (suc q) r =
-    let found = r.some 0 0 None refl (omega arith) in
-    let none : None ≡ Some (found.0, found.1) = found.2 in
-    cc
+-- the procedure whose code has a place, and in whose code no other one begins, runs there
+runs_apart : (ps : List (ℕ × Option (List ℕ))) (place q number entry after : ℕ) (name : Option (List ℕ)) → IsRunning ps place q → slice_get ps number ≡ Some (entry, name) → IsApart ps number entry after → entry ≤ place → place < after → q ≡ number
+runs_apart ps place q number entry after name r there apart low high =
+    let found = r.some number entry name there low in
+    ⊎_elim (λ (same : q ≡ number). same) (λ (o : (found.0 < entry) ⊎ (after ≤ found.0)). ⊎_elim (λ (less : found.0 < entry). absurd (omega (arith, less, found.4))) (λ (more : after ≤ found.0). absurd (omega (arith, more, found.3, high))) o) (apart q found.0 found.1 found.2)
 
-module _ (p : Resolved) (code : List ℕ) (small : IsSmall p (module_strings p)) (t : Translates p (module_strings p) code) (bare : p.procedures ≡ []) where
+limited_kind : (p : Resolved) (strings : List ℕ) (k : LimitKind) (t : Source) → IsSpent p strings k t → (k ≡ limit.Stack) ⊎ (k ≡ limit.Store)
+limited_kind p strings k t spent = ⊎_elim (λ stack. inl stack.0) (λ store. inr store) spent.kind
+
+module _ (p : Resolved) (entries code : List ℕ) (small : IsSmall p (module_strings p)) (t : Translates p (module_strings p) entries code) where
   abbrev start : State
-  start = begins p (module_strings p) code small t bare
+  start = begins p (module_strings p) entries code small t
 
   abbrev its : List Module
-  its = table p (module_strings p) code small t bare
+  its = table p (module_strings p) entries code small t
 
-  module _ (machine : Machine) (k : TrapKind) (e : Phase) (at : machine.at_module ≡ machine.state.running) (r : TrapsIn its k machine.state e) where
+  module _ (machine : Machine) (k : TrapKind) (e : Phase) (at : machine.at_module ≡ machine.state.running) (at_place : machine.at_place ≡ machine.state.place) (r : TrapsIn its k machine.state e) where
     -- the machine looked last at the one module that is loaded
-    known : module_at machine.state.modules machine.at_module ≡ Some (own p (module_strings p) code small t bare)
+    known : module_at machine.state.modules machine.at_module ≡ Some (own p (module_strings p) entries code small t)
     known =
-        ap (λ (x : List Module). module_at x machine.at_module) r.table_is ∙ ap (module_at its) at ∙ r.known ∙ ap (λ (m : Module). Some m) (sym (own_traps p (module_strings p) code small t bare k machine.state e r))
+        ap (λ (x : List Module). module_at x machine.at_module) r.table_is ∙ ap (module_at its) at ∙ r.known ∙ ap (λ (m : Module). Some m) (sym (own_traps p (module_strings p) entries code small t k machine.state e r))
 
-    is_in : IsIn machine (own p (module_strings p) code small t bare)
+    is_in : IsIn machine (own p (module_strings p) entries code small t)
     is_in = record { known = known; entry = 0; name = None; first = refl }
 
     -- the trap of the procedure there is the one with which the meaning ends
     one_trap : (u : TrapAt) → IsTrapOf machine k u → e ≡ Trapped u
     one_trap u it =
-        let q : it.procedure ≡ 0 = alone_runs machine.at_place it.procedure (it.runs (own p (module_strings p) code small t bare) known) in
-        let names : names_of machine.state.modules machine.at_module it.procedure ≡ Some (p.name, None) =
+        let its_own = own p (module_strings p) entries code small t in
+        let same_own = own_traps p (module_strings p) entries code small t k machine.state e r in
+        let table_is : r.own.procedures ≡ its_own.procedures = ap (λ (m : Module). m.procedures) (sym same_own) in
+        let q : it.procedure ≡ r.number = runs_apart r.own.procedures machine.at_place it.procedure r.number r.entry r.after r.name
+        (subst (λ (ps : List (ℕ × Option (List ℕ))). IsRunning ps machine.at_place it.procedure) (sym table_is) (it.runs its_own known)) r.there r.apart (omega (arith, at_place, r.low)) (omega (arith, at_place, r.high)) in
+        let names : names_of machine.state.modules machine.at_module it.procedure ≡ Some (p.name, r.name) =
         ap (λ (o : Option Module). option_and_then (λ (x : Module). option_and_then (λ (e : ℕ × Option (List ℕ)). Some (x.name, e.1)) (slice_get x.procedures it.procedure)) o) known
-        ∙ ap (λ (n : ℕ). option_and_then (λ (e : ℕ × Option (List ℕ)). Some (p.name, e.1)) (slice_get body_alone n)) q in
-        let same = same_Some (p.name, None) (u.«module», u.procedure) (sym names ∙ it.names) in
-        alone_traps p (module_strings p) code small t bare k machine.state e r
-        ∙ ap (λ (x : TrapKind). Trapped (record { kind = x; «module» = p.name; procedure = None })) (sym it.same)
+        ∙ ap (λ (n : ℕ). option_and_then (λ (e : ℕ × Option (List ℕ)). Some (p.name, e.1)) (slice_get its_own.procedures n)) q
+        ∙ ap (λ (ps : List (ℕ × Option (List ℕ))). option_and_then (λ (e : ℕ × Option (List ℕ)). Some (p.name, e.1)) (slice_get ps r.number)) (sym table_is)
+        ∙ ap (option_and_then (λ (e : ℕ × Option (List ℕ)). Some (p.name, e.1))) r.there in
+        let same = same_Some (p.name, r.name) (u.«module», u.procedure) (sym names ∙ it.names) in
+        alone_traps p (module_strings p) entries code small t k machine.state e r
+        ∙ ap (λ (x : TrapKind). Trapped (record { kind = x; «module» = p.name; procedure = r.name })) (sym it.same)
         ∙ ap (λ (x : List ℕ × Option (List ℕ)). Trapped (record { kind = u.kind; «module» = x.0; procedure = x.1 })) same
 
   module _ (steps : ℕ) (old new : Option (List ℕ)) (machine : Machine) where
     -- where the machine looked last, after a trap
     abbrev Looked : Ending → Type 0
-    Looked e = (k : TrapKind) → e ≡ ending.Trapped k → machine.at_module ≡ machine.state.running
+    Looked e = (k : TrapKind) → e ≡ ending.Trapped k → (machine.at_module ≡ machine.state.running) × (machine.at_place ≡ machine.state.place)
 
     abbrev Ran : Ending → World → Type 0
     Ran e w = HasRun start machine.state steps (finish_of e) old new w
 
     -- a trap of the run is one of the meaning
-    traps : (k : TrapKind) (w : World) → Ran (ending.Trapped k) w → TrapsIn its k machine.state (state_of p w (correct p (module_strings p) code small t bare w steps).n).phase
+    traps : (k : TrapKind) (w : World) → Ran (ending.Trapped k) w → TrapsIn its k machine.state (state_of p w (correct p (module_strings p) entries code small t w steps).n).phase
     traps k w ran =
-        let c = correct p (module_strings p) code small t bare w steps in
+        let c = correct p (module_strings p) entries code small t w steps in
         subst (λ (m : State). TrapsIn its k m (state_of p w c.n).phase) (sym ran.machine) (claimed (TrappedBy k) c.agrees (sym ran.finish))
 
-    -- of the limits that of the store alone comes, and bad code never
+    -- of the limits those of words alone come, and bad code never
     pub possible : (e : Ending) → ((w : World) → w.screen ≡ [] → Ran e w) → Looked e → IsPossible machine e
     possible (ending.Trapped k) ran at =
-        (own p (module_strings p) code small t bare, is_in machine k (state_of p some_world (correct p (module_strings p) code small t bare some_world steps).n).phase (at k refl) (traps k some_world (ran some_world some_blank)))
+        (own p (module_strings p) entries code small t, is_in machine k (state_of p some_world (correct p (module_strings p) entries code small t some_world steps).n).phase (at k refl).0 (at k refl).1 (traps k some_world (ran some_world some_blank)))
     possible (ending.Limited k) ran at =
-        let c = correct p (module_strings p) code small t bare some_world steps in
-        store_alone p (module_strings p) code small t bare some_world c.n k (claimed (Limited k) c.agrees (sym (ran some_world some_blank).finish))
-    possible ending.Broken ran at = absurd (claimed Broken (correct p (module_strings p) code small t bare some_world steps).agrees (sym (ran some_world some_blank).finish))
+        let c = correct p (module_strings p) entries code small t some_world steps in
+        limited_kind p (module_strings p) k (state_of p some_world c.n) (claimed (Limited k) c.agrees (sym (ran some_world some_blank).finish))
+    possible ending.Broken ran at = absurd (claimed Broken (correct p (module_strings p) entries code small t some_world steps).agrees (sym (ran some_world some_blank).finish))
     possible _ ran at = tt
 
     -- the phase that the meaning has come to
     abbrev there : World → Phase
-    there w = (state_of p w (correct p (module_strings p) code small t bare w steps).n).phase
+    there w = (state_of p w (correct p (module_strings p) entries code small t w steps).n).phase
 
     allowed : (e : Ending) (s : Status) (w : World) → Ran e w → EndingAnswers machine e s → Looked e → Allowed s (there w)
-    allowed ending.Done s w ran is at = subst (λ (y : Status). Allowed y (there w)) (sym is) (claimed Finished (correct p (module_strings p) code small t bare w steps).agrees (sym ran.finish))
+    allowed ending.Done s w ran is at = subst (λ (y : Status). Allowed y (there w)) (sym is) (claimed Finished (correct p (module_strings p) entries code small t w steps).agrees (sym ran.finish))
     allowed (ending.Trapped k) s w ran (inl memory) at = subst (λ (y : Status). Allowed y (there w)) (sym memory) tt
-    allowed (ending.Trapped k) s w ran (inr (u, is, it)) at = subst (λ (y : Status). Allowed y (there w)) (sym is) (one_trap machine k (there w) (at k refl) (traps k w ran) u it)
+    allowed (ending.Trapped k) s w ran (inr (u, is, it)) at = subst (λ (y : Status). Allowed y (there w)) (sym is) (one_trap machine k (there w) (at k refl).0 (at k refl).1 (traps k w ran) u it)
     allowed (ending.Limited k) s w ran is at = subst (λ (y : Status). Allowed y (there w)) (sym is) tt
-    allowed ending.Spent s w ran is at = subst (λ (y : Status). Allowed y (there w)) (sym is) (claimed Running (correct p (module_strings p) code small t bare w steps).agrees (sym ran.finish))
+    allowed ending.Spent s w ran is at = subst (λ (y : Status). Allowed y (there w)) (sym is) (claimed Running (correct p (module_strings p) entries code small t w steps).agrees (sym ran.finish))
     allowed _ s w ran is at = absurd is
 
     no_fault : (e : Ending) (s : Status) → EndingAnswers machine e s → s ≢ a.ScreenFault
@@ -111,15 +120,15 @@ module _ (p : Resolved) (code : List ℕ) (small : IsSmall p (module_strings p))
 
     stops : (e : Ending) (s : Status) (w : World) → Ran e w → EndingAnswers machine e s → s ≡ a.Memory → IsOver (there w)
     stops ending.Done s w ran is memory = absurd (let e = sym is ∙ memory in cc)
-    stops (ending.Trapped k) s w ran is memory = subst IsOver (sym (alone_traps p (module_strings p) code small t bare k machine.state (there w) (traps k w ran))) tt
+    stops (ending.Trapped k) s w ran is memory = subst IsOver (sym (alone_traps p (module_strings p) entries code small t k machine.state (there w) (traps k w ran))) tt
     stops (ending.Limited k) s w ran is memory = absurd (let e = sym is ∙ memory in cc)
     stops ending.Spent s w ran is memory = absurd (let e = sym is ∙ memory in cc)
     stops _ s w ran is memory = absurd is
 
     -- where the budget is spent, that is far enough
     far : (e : Ending) (s : Status) (w : World) → Ran e w → EndingAnswers machine e s → s ≡ a.StepsSpent → (m : ℕ) → 32 * m + 64 ≤ steps
-        → (m ≤ (correct p (module_strings p) code small t bare w steps).n) × ((state_of p w m).phase ≡ Going)
-    far ending.Spent s w ran is spent m le = enough p (module_strings p) code small t bare w steps (sym ran.finish) m le
+        → (m ≤ (correct p (module_strings p) entries code small t w steps).n) × ((state_of p w m).phase ≡ Going)
+    far ending.Spent s w ran is spent m le = enough p (module_strings p) entries code small t w steps (sym ran.finish) m le
     far (ending.Trapped k) s w ran (inl memory) spent m le = absurd (let e = sym memory ∙ spent in cc)
     far (ending.Trapped k) s w ran (inr (u, is, it)) spent m le = absurd (let e = sym is ∙ spent in cc)
     far ending.Broken s w ran is spent m le = absurd is
@@ -128,7 +137,7 @@ module _ (p : Resolved) (code : List ℕ) (small : IsSmall p (module_strings p))
     -- what is shown is what a state of the meaning has shown, and the answer is that state's
     pub shows_end : (e : Ending) (s : Status) (w : World) → Ran e w → EndingAnswers machine e s → Looked e → Shows p w steps old new s
     shows_end e s w ran is at =
-        let c = correct p (module_strings p) code small t bare w steps in
+        let c = correct p (module_strings p) entries code small t w steps in
         record {
           n = c.n;
           shown = record {
@@ -138,19 +147,19 @@ module _ (p : Resolved) (code : List ℕ) (small : IsSmall p (module_strings p))
             stops = λ memory. inr (stops e s w ran is memory);
             far = far e s w ran is;
             machine =
-                machine_end p code small t bare steps old new w machine e s
-                (subst (λ (x : State). HasRun x machine.state steps (finish_of e) old new w) (sym (loaded_state p (module_strings p) code small t bare)) ran) is;
+                machine_end p entries code small t steps old new w machine e s
+                (subst (λ (x : State). HasRun x machine.state steps (finish_of e) old new w) (sym (loaded_state p (module_strings p) entries code small t)) ran) is;
           };
         }
 
     -- a settled answer is the end of the meaning, unless the run was cut short
     pub means_end : (e : Ending) (s : Status) (w : World) → Ran e w → EndingAnswers machine e s → Looked e → settled s ≡ true → (cuts s ≡ true) ⊎ MeansAnswer p w s
     means_end ending.Done s w ran is at ok =
-        let c = correct p (module_strings p) code small t bare w steps in
+        let c = correct p (module_strings p) entries code small t w steps in
         inr (record { steps = c.n; ends = subst (λ (x : Phase). EndsSo x s) (sym (claimed Finished c.agrees (sym ran.finish))) is })
     means_end (ending.Trapped k) s w ran (inl memory) at ok = absurd (let e = ap settled memory in cc)
     means_end (ending.Trapped k) s w ran (inr (u, is, it)) at ok =
-        inr (record { steps = (correct p (module_strings p) code small t bare w steps).n; ends = subst (λ (x : Phase). EndsSo x s) (sym (one_trap machine k (there w) (at k refl) (traps k w ran) u it)) is })
+        inr (record { steps = (correct p (module_strings p) entries code small t w steps).n; ends = subst (λ (x : Phase). EndsSo x s) (sym (one_trap machine k (there w) (at k refl).0 (at k refl).1 (traps k w ran) u it)) is })
     means_end (ending.Limited k) s w ran is at ok = inl (ap cuts is)
     means_end ending.Spent s w ran is at ok = inl (ap cuts is)
     means_end _ s w ran is at ok = absurd is
@@ -181,13 +190,13 @@ module _ (p : Resolved) (code : List ℕ) (small : IsSmall p (module_strings p))
     run = mrun cut.done from
 
     abbrev so_far : ℕ
-    so_far = (correct p (module_strings p) code small t bare w cut.done).n
+    so_far = (correct p (module_strings p) entries code small t w cut.done).n
 
     abbrev shown : List ℕ
     shown = (state_of p w so_far).world.screen
 
     at : run.world.screen ≡ shown
-    at = ap (λ (x : World). x.screen) (correct p (module_strings p) code small t bare w cut.done).agrees.world
+    at = ap (λ (x : World). x.screen) (correct p (module_strings p) entries code small t w cut.done).agrees.world
 
     cut_at : (n : ℕ) (piece : List ℕ) → (state_of p w (suc n)).world.screen ≡ (state_of p w n).world.screen ++ piece
         → FollowedByPrefix (followed_by old (state_of p w n).world.screen) piece new → Shows p w steps old new a.ScreenFault
@@ -200,8 +209,8 @@ module _ (p : Resolved) (code : List ℕ) (small : IsSmall p (module_strings p))
         stops = λ memory. cc;
         far = λ spent. cc;
         machine =
-            machine_cut p code small t bare steps old new w n
-            (subst (λ (x : State). IsCut x steps old new w) (sym (loaded_state p (module_strings p) code small t bare)) cut);
+            machine_cut p entries code small t steps old new w n
+            (subst (λ (x : State). IsCut x steps old new w) (sym (loaded_state p (module_strings p) entries code small t)) cut);
       };
     }
 
@@ -235,9 +244,9 @@ module _ (p : Resolved) (code : List ℕ) (small : IsSmall p (module_strings p))
         cut_at so_far more.piece more.adds (nothing_first (followed_by old shown) new more.piece (subst (λ (l : List ℕ). FollowedByPrefix (followed_by old l) [] new) at prefix))
     by_piece (b ∷ rest) behind prefix =
         let piece : List ℕ = b ∷ rest in
-        let d = correct p (module_strings p) code small t bare w (suc cut.done) in
+        let d = correct p (module_strings p) entries code small t w (suc cut.done) in
         let f = next_piece (p ∷ []) first so_far d.n piece (λ e. cc) (ap (λ (x : World). x.screen) (sym d.agrees.world) ∙ behind) in
-        let r = reached p (module_strings p) code small t bare w (suc f.m) in
+        let r = reached p (module_strings p) entries code small t w (suc f.m) in
         let is : f.first ≡ piece = whole_piece from cut.done r.steps shown piece f.first f.rest at behind f.whole f.some (came f.m b rest f.before behind r ∙ f.behind) in
         cut_at f.m piece (f.behind ∙ ap (λ (l : List ℕ). l ++ f.first) (sym f.before) ∙ ap (λ (l : List ℕ). (state_of p w f.m).world.screen ++ l) is)
         (subst (λ (l : List ℕ). FollowedByPrefix (followed_by old l) piece new) (at ∙ sym f.before) prefix)

@@ -30,11 +30,11 @@ going_until library zero n s none le h = going_first library n s none h
 going_until library (suc m) zero s none le h = absurd (omega arith)
 going_until library (suc m) (suc n) s none le h = going_until library m n (next library s) (after_first library 1 s none) (omega arith) h
 
-module _ (p : Resolved) (strings code : List ℕ) (small : IsSmall p strings) (t : Translates p strings code) (bare : p.procedures ≡ []) where
+module _ (p : Resolved) (strings entries code : List ℕ) (small : IsSmall p strings) (t : Translates p strings entries code) where
   -- where the machine runs on after a budget, the meaning has come at least as far as the budget is enough for, and went on there
-  pub enough : (w : World) (steps : ℕ) → (mrun steps (running (begins p strings code small t bare) w)).finish ≡ Running → (m : ℕ) → 32 * m + 64 ≤ steps
-      → (m ≤ (correct p strings code small t bare w steps).n) × ((state_of p w m).phase ≡ Going)
+  pub enough : (w : World) (steps : ℕ) → (mrun steps (running (begins p strings entries code small t) w)).finish ≡ Running → (m : ℕ) → 32 * m + 64 ≤ steps
+      → (m ≤ (correct p strings entries code small t w steps).n) × ((state_of p w m).phase ≡ Going)
   enough w steps runs m le =
-      let c = correct p strings code small t bare w steps in
+      let c = correct p strings entries code small t w steps in
       let within : m ≤ c.n = omega (arith, le, c.far (λ k e. let r = runs in cc)) in
       (within, going_until (p ∷ []) m c.n (begun (p ∷ []) (0 ∷ []) (1 ∷ []) w) refl within (claimed Running c.agrees runs))

@@ -10,5 +10,6 @@ mod Enough
 mod Pieces
 mod Screens
 mod Stays
+mod Tables
 mod Telling
 mod Turns

@@ -31,17 +31,18 @@ FinishAnswers _ steps done f = ⊥
 -- What the machine did where the meaning came to the state behind n steps: a translation of the module was loaded with the module's strings and ran
 -- for some instructions within the budget.
 pub record MachineRan (p : Resolved) (w : World) (n steps : ℕ) (old new : Option (List ℕ)) (status : Status) : Type 0 where
+  pub entries : List ℕ
   pub code : List ℕ
-  pub translates : Translates p (module_strings p) code
+  pub translates : Translates p (module_strings p) entries code
   -- the instructions that were done
   pub done : ℕ
   pub within : done ≤ steps
-  pub finish : FinishAnswers status steps done (mrun done (running (loaded p (module_strings p) code).state w)).finish
-  pub shown : status ≢ a.ScreenFault → new ≡ followed_by old (mrun done (running (loaded p (module_strings p) code).state w)).world.screen
+  pub finish : FinishAnswers status steps done (mrun done (running (loaded p (module_strings p) entries code).state w)).finish
+  pub shown : status ≢ a.ScreenFault → new ≡ followed_by old (mrun done (running (loaded p (module_strings p) entries code).state w)).world.screen
   -- where the screen failed, a prefix of the piece of the request at hand may stand behind it
-  pub cut : status ≡ a.ScreenFault → IsRefused (mrun done (running (loaded p (module_strings p) code).state w)).machine (followed_by old (mrun done (running (loaded p (module_strings p) code).state w)).world.screen) new
+  pub cut : status ≡ a.ScreenFault → IsRefused (mrun done (running (loaded p (module_strings p) entries code).state w)).machine (followed_by old (mrun done (running (loaded p (module_strings p) entries code).state w)).world.screen) new
   -- where the whole budget brings no end, a settled answer is StepsSpent
-  pub spent : (mrun steps (running (loaded p (module_strings p) code).state w)).finish ≡ Running → settled status ≡ true → status ≡ a.StepsSpent
+  pub spent : (mrun steps (running (loaded p (module_strings p) entries code).state w)).finish ≡ Running → settled status ≡ true → status ≡ a.StepsSpent
   -- a limit comes only where data, and the calls, objects and workspaces of the next state, take more words than the store has
   pub limited : (k : LimitKind) → status ≡ a.Limit k → IsSpent p (module_strings p) k (state_of p w n)
 

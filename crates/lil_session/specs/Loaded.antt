@@ -33,6 +33,6 @@ EndingAnswers machine ending.Spent s = s ≡ answer.StepsSpent
 abbrev pub IsPossible : Machine → Ending → Type 0
 IsPossible machine ending.Done = Unit {0}
 IsPossible machine (ending.Trapped k) = (m : Module) × IsIn machine m
-IsPossible machine (ending.Limited k) = k ≡ limit.Store
+IsPossible machine (ending.Limited k) = (k ≡ limit.Stack) ⊎ (k ≡ limit.Store)
 IsPossible machine ending.Broken = ⊥
 IsPossible machine ending.Spent = Unit {0}

@@ -198,6 +198,6 @@ IsRunAnswer a.Done = ⊤
 IsRunAnswer (a.Trapped t) = ⊤
 IsRunAnswer a.ScreenFault = ⊤
 IsRunAnswer a.StepsSpent = ⊤
-IsRunAnswer (a.Limit k) = k ≡ limit.Store
+IsRunAnswer (a.Limit k) = (k ≡ limit.Stack) ⊎ (k ≡ limit.Store)
 IsRunAnswer a.Memory = ⊤
 IsRunAnswer _ = ⊥

@@ -1,5 +1,5 @@
-ghost use Rattle.std.specs.Prelude.{◌≡◌, ◌≢◌, ◌⊎◌, ◌≤◌, [], true, length, IfOk, OnErr, Ok, Some};
-ghost use Rattle.lil_resolved.specs.{Views.module_of, Sizes.{IsSmall, code_size, module_strings}, Kinds.all_words};
+ghost use Rattle.std.specs.Prelude.{◌≡◌, ◌≢◌, ◌⊎◌, ◌<◌, ◌≤◌, [], ◌∷◌, true, length, map, IfOk, OnErr, Ok, Some, None};
+ghost use Rattle.lil_resolved.specs.{Views.{module_of, procedure_of}, Sizes.{IsSmall, code_size, module_strings}, Kinds.all_words};
 ghost use Rattle.lil_meaning.specs.World.{World};
 ghost use Rattle.lil_mcode.specs.Table.{Module, State, mstep};
 ghost use Rattle.lil_volume.specs.Causes.{HasCause};
@@ -7,14 +7,15 @@ ghost use Rattle.lil_base.specs.declared.fault.TrapKind.{TrapKind};
 ghost use Rattle.lil_session.specs.declared.run.Ending.TheVariants as ending;
 ghost use Rattle.lil_table.specs.Rows.{Translates};
 ghost use Rattle.lil_session.specs.{Running.{finish_of, finish_by, IsStep, IsRefused, HasRun, IsCut}, Outcome.{cuts, settled, Blames, MeansAnswer, IsRunAnswer}, Headline.Shows, Loaded.{IsIn, IsTrapOf, EndingAnswers, IsPossible}};
-ghost use Rattle.std.specs.Option.{option_copied};
-ghost use Rattle.lil_laws.specs.Loading.{loaded};
+ghost use Rattle.std.specs.{List.All, Option.option_copied};
+ghost use Rattle.lil_laws.specs.Loading.{loaded, named_entries};
 
 use crate::Status;
-use lil_base::{Bytes, LimitKind, Memory, Name, TrapAt, TrapKind};
+use lil_base::{LimitKind, Memory, Name, TrapAt, TrapKind};
 use lil_kernel::serve;
 use lil_mcode::{Event, Machine};
-use lil_resolved::RModule;
+use lil_resolved::{RModule, RProcedure};
+use lil_unit::ModuleCode;
 use lil_volume::{Sink, SinkFailed};
 use std::alloc::Global;
 
@@ -62,7 +63,7 @@ fn run_machine<S: Sink>(
 ) -> Result<Ending, SinkFailed>
     ensures ran { IfOk result (λ e. (w : World) → w.screen ≡ [] → HasRun machine.old.state machine.new.state steps (finish_of e) (S.written screen.old) (S.written screen.new) w) }
     ensures cut { OnErr result ((w : World) → w.screen ≡ [] → IsCut machine.old.state steps (S.written screen.old) (S.written screen.new) w) }
-    ensures at { IfOk result (λ e. (k : TrapKind) → e ≡ ending.Trapped k → machine.new.at_module ≡ machine.new.state.running) }
+    ensures at { IfOk result (λ e. (k : TrapKind) → e ≡ ending.Trapped k → (machine.new.at_module ≡ machine.new.state.running) × (machine.new.at_place ≡ machine.new.state.place)) }
     ensures cause { HasCause (S.faults screen.old) (S.faults screen.new) result }
 {
     let mut left = steps;
@@ -76,21 +77,42 @@ fn run_machine<S: Sink>(
     Ok(Ending::Spent)
 }
 
+/// The table of a module's procedures: its body, which has no name and begins the code, and behind it each procedure with
+/// its entry and its name.
+fn procedures(
+    alloc: Global,
+    of: &[RProcedure],
+    entries: &[u16],
+) -> Result<Vec<(u16, Option<Name>)>, Memory>
+    requires { length entries.now ≡ length of.now }
+    ensures { IfOk result (λ table. table.items ≡ (0, None) ∷ named_entries (map procedure_of of.now) entries.now) }
+{
+    let mut table = Vec::new(alloc);
+    table.push((0, None))?;
+    for (number, procedure) in of.iter().enumerate() {
+        table.push((entries[number], Some(procedure.name.copy(alloc)?)))?;
+    }
+    Ok(table)
+}
+
 /// A machine in which the module is loaded alone, with its strings behind its variables, and begun.
-fn load(alloc: Global, m: &RModule, code: &Bytes, strings: &[u16]) -> Result<Machine, Memory>
-    requires small { IsSmall (module_of m.now) strings.now }
+fn load(alloc: Global, m: &RModule, made: &ModuleCode) -> Result<Machine, Memory>
+    requires small { IsSmall (module_of m.now) made.now.strings.items }
     requires counted { m.now.words ≡ all_words (module_of m.now).variables }
-    requires long { length code.now ≡ code_size (module_of m.now) }
-    ensures { IfOk result (λ machine. machine ≡ loaded (module_of m.now) strings.now code.now) }
+    requires long { length made.now.code ≡ code_size (module_of m.now) }
+    requires few { length m.now.procedures ≤ 250 }
+    requires many { length made.now.entries ≡ length m.now.procedures }
+    requires entries { All (λ e. e < length made.now.code) made.now.entries }
+    ensures { IfOk result (λ machine. machine ≡ loaded (module_of m.now) made.now.strings.items made.now.entries made.now.code) }
 {
     let mut machine = Machine::new(alloc)?;
     let name = m.name.copy(alloc)?;
-    let mut procedures = Vec::new(alloc);
-    procedures.push((0, None))?;
+    let table = procedures(alloc, m.procedures.as_slice(), made.entries.as_slice())?;
     let mut bodies = Vec::new(alloc);
     bodies.push(1)?;
     machine.open_level();
-    machine.add_module(name, procedures, code, m.words + strings.len() as u16);
+    let strings = made.strings.as_slice();
+    machine.add_module(name, table, &made.code, m.words + strings.len() as u16);
     machine.set_words(1 + m.words, strings);
     machine.begin(bodies);
     Ok(machine)
@@ -141,23 +163,23 @@ fn answer(alloc: Global, machine: &Machine, end: Ending) -> Status
 pub(crate) fn run_program<S: Sink>(
     alloc: Global,
     m: &RModule,
-    code: &Bytes,
-    strings: &[u16],
+    made: &ModuleCode,
     steps: u64,
     screen: &mut S,
 ) -> Status
-    requires strings { strings.now ≡ module_strings (module_of m.now) }
-    requires translates { Translates (module_of m.now) (module_strings (module_of m.now)) code.now }
+    requires strings { made.now.strings.items ≡ module_strings (module_of m.now) }
+    requires translates { Translates (module_of m.now) (module_strings (module_of m.now)) made.now.entries made.now.code }
     requires small { IsSmall (module_of m.now) (module_strings (module_of m.now)) }
     requires counted { m.now.words ≡ all_words (module_of m.now).variables }
-    requires long { length code.now ≡ code_size (module_of m.now) }
+    requires few { length m.now.procedures ≤ 250 }
+    requires long { length made.now.code ≡ code_size (module_of m.now) }
     ensures shows { (w : World) → w.screen ≡ [] → Shows (module_of m.now) w steps (S.written screen.old) (S.written screen.new) result }
     ensures answer { (w : World) → w.screen ≡ [] → settled result ≡ true → (cuts result ≡ true) ⊎ MeansAnswer (module_of m.now) w result }
     ensures kinds { IsRunAnswer result }
     ensures cause { Blames Status.ScreenFault (S.faults screen.old) (S.faults screen.new) result }
     ensures told { (result ≡ Status.ScreenFault) ⊎ (S.faults screen.new ≡ S.faults screen.old) }
 {
-    let Ok(mut machine) = load(alloc, m, code, strings) else {
+    let Ok(mut machine) = load(alloc, m, made) else {
         return Status::Memory;
     };
     match run_machine(&mut machine, steps, screen) {

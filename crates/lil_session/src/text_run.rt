@@ -54,7 +54,7 @@ fn run_module<S: Sink>(
 {
     match generate(alloc, m) {
         Err(stop) => not_generated(stop, name),
-        Ok(made) => run_program(alloc, m, &made.code, made.strings.as_slice(), steps, screen),
+        Ok(made) => run_program(alloc, m, &made, steps, screen),
     }
 }
 

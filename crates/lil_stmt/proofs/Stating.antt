@@ -10,7 +10,7 @@ use Rattle.lil_asm.specs.declared.instr.Instr.{Instr, TheVariants.{Jmp, Cas, Trp
 use Rattle.lil_table.specs.{Rows.{IsAt, EntriesAt, ArmsAt, loop_place, Layout, holding, BodyAt, loop_sign, test_code}, LabelLaws.label_in}
 use Rattle.lil_labels.specs.{Drafts.{Draft, Final, EntryAt, Entering, Meaning, Adds, Emits, Nothing, Doing, Each, Marking, Makes, Ends, inside, outside, DoingAll}, Emitting.{with_ok, take_next, each_more, emits_then, emits_as, adds_as, emits_within, emits_here, emits_fresh, emits_mark, emits_tied, emits_inside}, Tables.{Tables, variable_by}}
 use Rattle.lil_expr.specs.{Generating.Value, Variables.known_row}
-use Rattle.lil_stmt.specs.Generating.{Body, StatementPart, statement_part, GuardPart, guard_part, paired, ArmBody, arm_part, Trapping, ElsePart, HasWords, LabelEntry, ArmLabels, ChoiceOf, entries, Addressed, Stated, Aligning}
+use Rattle.lil_stmt.specs.Generating.{Body, StatementPart, statement_part, GuardPart, guard_part, paired, ArmPart, ArmBody, arm_part, Trapping, ElsePart, HasWords, LabelEntry, ArmLabels, ChoiceOf, entries, Addressed, Stated, Aligning}
 use Rattle.lil_stmt.proofs.{Words.in_word, Counting.joined_words, Strings.{case_strings, body_parts, if_strings}, Storing.whole}
 use Rattle.std.specs.Prelude.{slice_get}
 
@@ -242,6 +242,14 @@ entries_one (b ∷ arms) a = omega (arith, entries_one arms a)
 
 pub entries_next : (arms : List RArm) (i : ℕ) (a : RArm) → i < length arms → a ≡ get_or arms i a → entries (take (i + 1) arms) ≡ entries (take i arms) + length a.labels
 entries_next arms i a inside is = ap entries (take_next arms i a inside is) ∙ entries_one (take i arms) a
+
+pub arm_emitted : (n : ℕ) (exit : Option ℕ) (leave label : ℕ) (ss : Statements) (a b c d : Draft)
+    → Emits a b (Marking label) → Adds (body_strings ss) b c (Body n exit ss) → Emits c d (Doing (λ w. Jmp (w leave))) → Adds (body_strings ss) a d (ArmPart n exit leave label ss)
+arm_emitted n exit leave label ss a b c d mark body jump =
+    adds_as a d _ (append-nil (body_strings ss))
+    (emits_as a d _ (ArmPart n exit leave label ss)
+    (λ x t. record { end = length c.bytes; named = t.0; here = t.1.0; jump = t.1.1 })
+    (emits_mark a b d label _ mark (emits_then b c d _ _ body jump)))
 
 pub trap_marked : (label : ℕ) (a b c : Draft) → Emits a b (Marking label) → Emits b c (Doing (λ w. Trp 7)) → Emits a c (Trapping label)
 trap_marked label a b c mark trap = emits_mark a b c label _ mark trap

@@ -54,7 +54,8 @@ fn statement_words(statement: &RStmt) -> u16
         | RStmt::Request(_, _)
         | RStmt::Exit
         | RStmt::Halt
-        | RStmt::Return => 0,
+        | RStmt::Return
+        | RStmt::Call(_, _) => 0,
     }
 }
 

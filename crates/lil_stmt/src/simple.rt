@@ -2,7 +2,7 @@
 
 ghost use Rattle.std.specs.{Prelude.{◌≡◌, ℕ, Option, map, OnOk}, List.flat_map};
 ghost use Rattle.lil_resolved.specs.Resolved as resolved;
-ghost use Rattle.lil_resolved.specs.{Resolved.{Assign, Copy, Change, Member, New, Allocate, Exit}, Views.{kind_view, place_of, is_down, is_out, is_back, argument_of, expression_of}, Sizes.{words_of, argument_strings, arguments_strings}};
+ghost use Rattle.lil_resolved.specs.{Resolved.{Assign, Copy, Change, Member, New, Allocate, Exit, Call}, Views.{kind_view, place_of, is_down, is_out, is_back, argument_of, expression_of}, Sizes.{words_of, argument_strings, arguments_strings}};
 ghost use Rattle.lil_asm.specs.Bytes.{Sayable};
 ghost use Rattle.lil_table.specs.Rows.{member_code, allocate_code};
 ghost use Rattle.lil_labels.specs.Drafts.{DoingAll, Each, Adds, Emits};
@@ -222,4 +222,12 @@ pub(crate) fn emit_exit(code: &mut CodeBuffer<'_>, around: Around) -> Result<(),
         None => Ok(()),
         Some(to) => code.jump(Aim::Always, to),
     }
+}
+
+/// Appends a call of a procedure without parameters, which is declared so many levels out: the mark, and the call itself.
+pub(crate) fn emit_call(code: &mut CodeBuffer<'_>, procedure: u8, levels: u8) -> Result<(), Memory>
+    ensures { OnOk result ((n : ℕ) (exit : Option ℕ) → Emits code.old code.new (Stated n exit (Call procedure levels))) }
+{
+    code.put(Instr::Mrk(levels))?;
+    code.put(Instr::Cll(procedure, 0))
 }

@@ -9,8 +9,8 @@ use crate::cases::emit_choice;
 use crate::kinds::{emit_turn_test, loop_sign};
 use crate::loops::loop_place;
 use crate::simple::{
-    emit_allocate, emit_assign, emit_change, emit_copy, emit_exit, emit_member, emit_new,
-    emit_request, emit_text,
+    emit_allocate, emit_assign, emit_call, emit_change, emit_copy, emit_exit, emit_member,
+    emit_new, emit_request, emit_text,
 };
 use crate::starts::emit_align;
 use crate::targets::emit_address_of;
@@ -75,6 +75,7 @@ fn emit_statement(
         RStmt::Exit => emit_exit(code, around),
         RStmt::Halt => code.put(Instr::Trp(9)),
         RStmt::Return => code.put(Instr::Rtn),
+        RStmt::Call(procedure, levels) => emit_call(code, *procedure, *levels),
     }
 }
 

@@ -3,11 +3,11 @@ use Rattle.std.proofs.Common.{◌≡◌, ℕ, zero, suc, ◌+◌, ◌*◌, ◌�
 use Rattle.lil_base.specs.{Words.{Whole, Cardinal, Integer, word_of}, declared.operator.{OneOp.OneOp, TwoOp.{TwoOp, TheVariants.{Equal, Unequal, Less, AtMost, Greater, AtLeast, In, Plus, Minus, Times, Slash, Or, And}}}, Requests.request_number}
 use Rattle.lil_base.specs.declared.operator.OneOp.TheVariants as one
 use Rattle.lil_resolved.specs.Kinds.{Kind, OfWhole, OfCharacter, OfSet, OfPointer, base_of, compared_as, covers, shared, outside_turns, words, shape_at}
-use Rattle.lil_resolved.specs.Resolved.{Designator, Variable, Held, Field, Element, Follow, Function, Abs, Cap, Chr, Odd, Ord, Val, Expression, Constant, Taken, One, Two, Short, Apply, With, WithSpan, Argument, ByValue, OfArray, OfText, Label, Statement, Assign, Copy, Text, Change, Member, New, Allocate, Request, If, Case, While, Repeat, Loop, Exit, Halt, Return, Call, For, Inside, Statements, Empty, Then, Arms, NoElse, Else, Arm, Resolved, kind_of, counted_as, shape_of}
-use Rattle.lil_resolved.specs.Sizes.{statement_words, body_words, arms_words, frame_words, argument_size, one_size, two_size, test_size, function_size, Form, Direct, Exact, Beyond, field_form, form_of, address_size, load_size, ready_size, store_size, again_size, under_size, place_size, target_size, size, arguments_size, allocate_size, statement_size, body_size, arms_size, code_size}
+use Rattle.lil_resolved.specs.Resolved.{Designator, Variable, Held, Field, Element, Follow, Function, Abs, Cap, Chr, Odd, Ord, Val, Expression, Constant, Taken, One, Two, Short, Apply, With, WithSpan, Argument, ByValue, OfArray, OfText, Label, Statement, Assign, Copy, Text, Change, Member, New, Allocate, Request, If, Case, While, Repeat, Loop, Exit, Halt, Return, Call, For, Inside, Statements, Empty, Then, Arms, NoElse, Else, Arm, Procedure, Resolved, kind_of, counted_as, shape_of}
+use Rattle.lil_resolved.specs.Sizes.{statement_words, body_words, arms_words, frame_words, argument_size, one_size, two_size, test_size, function_size, Form, Direct, Exact, Beyond, field_form, form_of, address_size, load_size, ready_size, store_size, again_size, under_size, place_size, target_size, size, arguments_size, allocate_size, statement_size, body_size, arms_size, framed_size, procedures_size, code_size}
 use Rattle.lil_resolved.specs.Sound.{takes_two}
-use Rattle.lil_asm.specs.{declared.instr.Instr.{Instr, TheVariants.{Liw, Lag, Dup, Drp, Nlt, Llw, Slw, Sgw, Swp, Rgc, Lsi, Spn, Mrk, Cll, Ent, Rtn, Jmp, Jpf, Cas, Fri, Frn, Trp, Alc, Svc}}, Bytes.bytes_of, Decoding.decoded_stands}
-use Rattle.lil_table.specs.Rows.{Layout, holding, argument_words, ArgumentAt, IsAt, InstrsAt, one_code, whole_code, two_code, range_code, test_code, function_code, Access, InData, OnTop, Behind, further, access_of, address_code, load_code, ready_code, readied, held, store_code, again_code, under_code, change_operator, change_code, member_code, allocate_code, short_code, loop_place, loop_sign, ValueRow, TargetRow, EntriesAt, AlignAt, PlaceAt, ExpressionAt, ArgumentsAt, StatementAt, BodyAt, ArmsAt, TranslatesBy}
+use Rattle.lil_asm.specs.{declared.instr.Instr.{Instr, TheVariants.{Liw, Lag, Dup, Drp, Nlt, Llw, Slw, Sgw, Swp, Rgc, Lsi, Spn, Mrk, Cll, Ent, Rtn, Jmp, Jpf, Cas, Fri, Frn, Trp, Alc, Svc}}, Bytes.bytes_of, Decoding.decoded_stands, Stretches.stretch}
+use Rattle.lil_table.specs.Rows.{Layout, in_procedure, holding, argument_words, ArgumentAt, IsAt, InstrsAt, one_code, whole_code, two_code, range_code, test_code, function_code, Access, InData, OnTop, Behind, further, access_of, address_code, load_code, ready_code, readied, held, store_code, again_code, under_code, change_operator, change_code, member_code, allocate_code, short_code, loop_place, loop_sign, ValueRow, TargetRow, EntriesAt, AlignAt, PlaceAt, ExpressionAt, ArgumentsAt, StatementAt, BodyAt, ArmsAt, FramedRow, ProceduresAt, TranslatesBy}
 
 -- the bytes of an instruction, and of several
 abbrev pub instr_size : Instr → ℕ
@@ -352,10 +352,18 @@ mutual
       let left = entries_end code k labels (l.target p) (ArmsAt l code n exit k rest leave other table h.gap) t w h.entries in
       omega (arith, body_long l code n exit body p h.end h.here, instr_long code h.end (Jmp (l.target leave)) h.gap h.leave, left.2, arms_long l code n exit k rest leave other table h.gap left.0 left.1 left.3)
 
--- any translation of a module without procedures has as many bytes as its size says
-pub module_long : (l : Layout) (m : Resolved) (code : List ℕ) → m.procedures ≡ [] → TranslatesBy l m code → length code ≡ code_size m
-module_long l m code bare h =
-    omega (arith, instr_long code 0 (Ent (l.target (frame_words m.body))) h.start h.enter, body_long l code 0 None m.body h.start h.end h.body, instr_long code h.end Rtn h.after h.leave, h.whole bare)
+pub framed_long : (l : Layout) (code : List ℕ) (ss : Statements) (p q : ℕ) → FramedRow l code ss p q → q ≡ p + framed_size ss
+framed_long l code ss p q h = omega (arith, instr_long code p (Ent (l.target (frame_words ss))) h.start h.enter, body_long l code 0 None ss h.start h.end h.body, instr_long code h.end Rtn q h.leave)
+
+pub procedures_long : (l : Layout) (code : List ℕ) (n : ℕ) (ps : List Procedure) (es : List ℕ) (p q : ℕ) → ProceduresAt l code n ps es p q → q ≡ p + procedures_size ps
+procedures_long l code n [] [] p q h = omega (arith, h)
+procedures_long l code n (its ∷ ps) (e ∷ es) p q h = omega (arith, framed_long (in_procedure l n its) (stretch p h.1.middle code) its.body p h.1.middle h.1.here, procedures_long l code (suc n) ps es h.1.middle q h.1.then)
+procedures_long l code n [] (e ∷ es) p q h = absurd h
+procedures_long l code n (its ∷ ps) [] p q h = absurd h
+
+-- any translation of a module has as many bytes as its size says
+pub module_long : (l : Layout) (m : Resolved) (entries code : List ℕ) → TranslatesBy l m entries code → length code ≡ code_size m
+module_long l m entries code h = omega (arith, framed_long l (stretch 0 h.middle code) m.body 0 h.middle h.body, procedures_long l code 1 m.procedures entries h.middle (length code) h.procedures)
 
 -- ---- a frame has no more words than its code has bytes
 mutual

@@ -5,12 +5,12 @@ use Rattle.std.specs.Prelude.{◌≡◌, ℕ, zero, suc, ◌+◌, ◌-◌, ◌*�
 use Rattle.lil_base.specs.{Words.{Whole, Cardinal, Integer, word_of}, declared.operator.{OneOp.OneOp, TwoOp.{TwoOp, TheVariants.{Equal, Unequal, Less, AtMost, Greater, AtLeast, In, Plus, Minus, Times, Slash, Div, Mod}}}, Requests.request_number}
 use Rattle.lil_base.specs.declared.operator.OneOp.TheVariants as one
 use Rattle.lil_base.specs.declared.request.Request as request
-use Rattle.lil_resolved.specs.Kinds.{Objects, Workspaces, Kind, OfWhole, OfTruth, OfCharacter, OfSet, OfPointer, base_of, is_ordinal, is_set, is_plain, is_element, takes_value, stores_value, compared_as, covers, shared, outside_turns, least, numbers, Scalar, is_literal, scalar_word, Shape, Word, Row, Scope, outermost, with_held, words, is_there, part_at, offset, all_words, offsets_from, shape_at, element_of}
-use Rattle.lil_resolved.specs.Resolved.{Designator, Variable, Held, Field, Element, Follow, Function, Abs, Cap, Chr, Odd, Ord, Val, Expression, Constant, Taken, One, Two, Short, Apply, With, WithSpan, Argument, ByValue, OfArray, OfText, Label, Statement, Assign, Copy, Text, Change, Member, New, Allocate, Request, If, Case, While, Repeat, Loop, Exit, Halt, Return, Call, For, Inside, Statements, Empty, Then, Arms, NoElse, Else, Arm, Procedure, Resolved, procedure_by, kind_of, right_kind, counted_as, shape_of}
+use Rattle.lil_resolved.specs.Kinds.{Objects, Workspaces, Kind, OfWhole, OfTruth, OfCharacter, OfSet, OfPointer, base_of, is_ordinal, is_set, is_plain, is_element, takes_value, stores_value, compared_as, covers, shared, outside_turns, least, numbers, Scalar, is_literal, scalar_word, Shape, Word, Row, Scope, with_held, MayCall, words, is_there, part_at, offset, all_words, offsets_from, shape_at, element_of}
+use Rattle.lil_resolved.specs.Resolved.{Designator, Variable, Held, Field, Element, Follow, Function, Abs, Cap, Chr, Odd, Ord, Val, Expression, Constant, Taken, One, Two, Short, Apply, With, WithSpan, Argument, ByValue, OfArray, OfText, Label, Statement, Assign, Copy, Text, Change, Member, New, Allocate, Request, If, Case, While, Repeat, Loop, Exit, Halt, Return, Call, For, Inside, Statements, Empty, Then, Arms, NoElse, Else, Arm, Procedure, Resolved, scope_in, kind_of, right_kind, counted_as, shape_of}
 use Rattle.lil_resolved.specs.{Sizes.{place_depth, depth, frame_words}, Sound.{takes_one, takes_two, takes_function, IsScalar, IsSoundLabel, IsStep, is_text, request_parameters, parameter_of}}
 use Rattle.lil_asm.specs.declared.instr.Instr.{Instr}
 use Rattle.lil_asm.specs.declared.instr.Instr.TheVariants.{Liw, Dup, Drp, Llw, Slw, Lgw, Sgw, Lag, Ldi, Sti, Ldf, Adf, Mov, Mvz, Nlt, Ixc, Swp, Rgc, Rgi, Cap, Adc, Sbc, Mlc, Dvc, Mdc, Adi, Sbi, Mli, Dvi, Mdi, Ngi, Abi, Uni, Dif, Its, Sym, Sin, Spn, Icl, Ecl, Sle, Not, Equ, Neq, Lsc, Lec, Lsi, Lei, Mrk, Cll, Ent, Rtn, Jmp, Jpf, Jan, Jor, Cas, Fri, Frn, Trp, Alc, Svc}
-use Rattle.lil_asm.specs.{Bytes.{word_at, decoded}, Requests.request_words}
+use Rattle.lil_asm.specs.{Bytes.{word_at, decoded}, Requests.request_words, Stretches.stretch}
 
 -- Where the variables of a module lie in its data frame, by their numbers; the shapes that names reach, and the words of the frame that
 -- have the addresses of the records of the WITHs around, the innermost first; how many words the variables take, and the words of the
@@ -23,9 +23,6 @@ pub record Layout : Type 0 where
   pub strings : List ℕ
   pub frame : ℕ
   pub target : ℕ → ℕ
-  -- the procedures of the module, and that at hand with those around it, by their numbers, the innermost first; none is around the body
-  pub procedures : List Procedure
-  pub chain : List ℕ
 
 -- a number as it is, and cut to 16 bits
 abbrev pub exactly : ℕ → ℕ
@@ -37,18 +34,20 @@ cut q = q % 65536
 abbrev pub layout_by : (ℕ → ℕ) → List ℕ → Resolved → Layout
 layout_by target strings m = record {
   offsets = offsets_from 0 m.variables;
-  scope = outermost m.targets m.variables;
+  scope = scope_in m [];
   held = [];
   words = all_words m.variables;
   strings = strings;
   frame = frame_words m.body;
   target = target;
-  procedures = m.procedures;
-  chain = [];
 }
 
 abbrev pub layout_of : List ℕ → Resolved → Layout
 layout_of strings m = layout_by exactly strings m
+
+-- in a procedure of the module, by its number
+abbrev pub in_procedure : Layout → ℕ → Procedure → Layout
+in_procedure l p its = record l { scope = record l.scope { chain = p ∷ its.around }; frame = frame_words its.body }
 
 -- inside of a WITH too, whose record has this shape, and its address this word of the frame
 abbrev pub holding : Layout → Shape → ℕ → Layout
@@ -661,16 +660,9 @@ pub record CaseRow (l : Layout) (code : List ℕ) (e : Expression) (arms : ℕ �
   pub choice : IsAt code choices (Cas (l.target count) (l.target other)) entries
   pub whole : q ≡ entries + 6 * count
 
--- the procedures around one that is declared so many levels out of that at hand
-abbrev pub Declared : List ℕ → ℕ → List ℕ → Type 0
-Declared chain zero around = around ≡ []
-Declared chain (suc n) around = (n < length chain) × (around ≡ drop n chain)
-
 -- a mark, and a call
 pub record CallRow (l : Layout) (code : List ℕ) (x n p q : ℕ) : Type 0 where
-  pub its : Procedure
-  pub known : procedure_by l.procedures x ≡ Some its
-  pub declared : Declared l.chain n its.around
+  pub may : MayCall l.scope x n
   pub middle : ℕ
   pub mark : IsAt code p (Mrk n) middle
   pub call : IsAt code middle (Cll x 0) q
@@ -789,26 +781,30 @@ abbrev mutual
   ArmsAt l code n exit k (Else body) leave other table p t w = ElseRow l code leave other table (BodyAt l code n exit body) p w
   ArmsAt l code n exit k (Arm labels body rest) leave other table p t w = ArmRow l code k leave labels (BodyAt l code n exit body) (ArmsAt l code n exit k rest leave other table) p t w
 
--- code of a procedure from its entry on: its frame, its statements, and the return
-pub record ProcedureRow (l : Layout) (code : List ℕ) (its : Procedure) (entry : ℕ) : Type 0 where
+-- a body or a procedure: its frame, its statements, and the return
+pub record FramedRow (l : Layout) (code : List ℕ) (ss : Statements) (p q : ℕ) : Type 0 where
   pub start : ℕ
   pub end : ℕ
-  pub after : ℕ
-  pub enter : IsAt code entry (Ent (l.target (frame_words its.body))) start
-  pub body : BodyAt l code 0 None its.body start end
-  pub leave : IsAt code end Rtn after
+  pub enter : IsAt code p (Ent (l.target (frame_words ss))) start
+  pub body : BodyAt l code 0 None ss start end
+  pub leave : IsAt code end Rtn q
 
--- code of a program module: its frame, its statements, and the return
-pub record TranslatesBy (l : Layout) (m : Resolved) (code : List ℕ) : Type 0 where
-  pub start : ℕ
-  pub end : ℕ
-  pub enter : IsAt code 0 (Ent (l.target (frame_words m.body))) start
-  pub body : BodyAt l code 0 None m.body start end
-  pub after : ℕ
-  pub leave : IsAt code end Rtn after
-  -- procedures stand behind the body
-  pub whole : m.procedures ≡ [] → after ≡ length code
+-- it stands by itself: nothing before or behind it is one of its instructions
+abbrev pub StretchRow : Layout → List ℕ → Statements → Span
+StretchRow l code ss p q = FramedRow l (stretch p q code) ss p q
+
+-- procedures from this number on, one behind another, and where each begins
+abbrev pub ProceduresAt : Layout → List ℕ → ℕ → List Procedure → List ℕ → Span
+ProceduresAt l code n [] [] p q = p ≡ q
+ProceduresAt l code n (its ∷ ps) (e ∷ es) p q = (e ≡ l.target p) × ThenRow (StretchRow (in_procedure l n its) code its.body) (ProceduresAt l code (suc n) ps es) p q
+ProceduresAt l code n _ _ p q = ⊥
+
+-- code of a program module: its body, and behind it the procedures, by where each begins
+pub record TranslatesBy (l : Layout) (m : Resolved) (entries code : List ℕ) : Type 0 where
+  pub middle : ℕ
+  pub body : StretchRow l code m.body 0 middle
+  pub procedures : ProceduresAt l code 1 m.procedures entries middle (length code)
 
 -- the strings and the code of a program module, whose numbers are written as they are
-abbrev pub Translates : Resolved → List ℕ → List ℕ → Type 0
-Translates m strings code = TranslatesBy (layout_of strings m) m code
+abbrev pub Translates : Resolved → (strings entries code : List ℕ) → Type 0
+Translates m strings entries code = TranslatesBy (layout_of strings m) m entries code

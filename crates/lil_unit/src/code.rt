@@ -1,25 +1,26 @@
-//! The code of a program module: its frame, its statements, and the return.
+//! The code of a program module: its body, and behind it its procedures, each with its frame, its statements and the return.
 
-ghost use Rattle.std.specs.Prelude.{◌≡◌, ◌+◌, ◌<◌, ◌≤◌, ℕ, length, min, IfOk, Err};
-ghost use Rattle.lil_resolved.specs.{Kinds.all_words, Views.{IsMeasured, module_of}, Sound.IsSound, Sizes.module_strings};
+ghost use Rattle.std.specs.Prelude.{◌≡◌, ◌+◌, ◌<◌, ◌≤◌, ℕ, length, map, min, IfOk, OnOk, Err};
+ghost use Rattle.lil_resolved.specs.{Kinds.all_words, Views.{IsMeasured, statements_of, procedure_of, module_of}, Sound.IsSound, Sizes.{body_strings, procedures_strings, module_strings}};
 ghost use Rattle.lil_resolved.specs.Sizes as spec;
 ghost use Rattle.lil_table.specs.Rows.{Translates};
 ghost use Rattle.lil_labels.specs.Drafts.{Adds, empty};
-ghost use Rattle.lil_unit.specs.Framing.{Framed};
+ghost use Rattle.lil_unit.specs.Framing.{Framed, EachFramed, AllFramed};
 
 use crate::GenStop;
 use lil_asm::Instr;
-use lil_base::{Bytes, Memory};
+use lil_base::{Bytes, Items, Memory};
 use lil_labels::CodeBuffer;
-use lil_resolved::RModule;
+use lil_resolved::{RModule, RProcedure, RStmt};
 use lil_stmt::{Around, emit_body, frame_words};
 use std::alloc::Global;
 
-/// The code of a program module, and the words of the strings that lie behind the module's variables, one a character, or a
-/// 0 for an empty string.
+/// The code of a program module, where each of its procedures begins in it, and the words of the strings that lie behind the
+/// module's variables, one a character, or a 0 for an empty string.
 #[derive(Drop)]
 pub struct ModuleCode {
     pub code: Bytes,
+    pub entries: Items<u16>,
     pub strings: Vec<u16>,
 }
 
@@ -33,15 +34,46 @@ fn counted(bytes: usize) -> u32
     u32::try_from(bytes).unwrap_or(u32::MAX)
 }
 
-/// The code of a program module, with labels.
-fn emit_module<'m>(alloc: Global, m: &'m RModule) -> Result<CodeBuffer<'m>, Memory>
-    ensures { IfOk result (λ code. Adds (module_strings (module_of m.now)) (empty m.now.shapes m.now.targets m.now.variables m.now.words) code (Framed (module_of m.now))) }
+/// Appends statements with the instructions that enter and leave them: the words of their frame, and the return.
+fn emit_framed(code: &mut CodeBuffer<'_>, body: &[RStmt]) -> Result<(), Memory>
+    ensures { OnOk result (Adds (body_strings (statements_of body.now)) code.old code.new (Framed (statements_of body.now))) }
 {
-    let body = m.body.as_slice();
     let around = Around {
         words: 0,
         exit: None,
     };
+    code.put(Instr::Ent(frame_words(body)))?;
+    emit_body(code, body, around)?;
+    code.put(Instr::Rtn)?;
+    Ok(())
+}
+
+/// Appends procedures, one behind another, and gives where each begins, cut to 16 bits.
+fn emit_procedures(
+    code: &mut CodeBuffer<'_>,
+    procedures: &[RProcedure],
+) -> Result<Items<u16>, Memory>
+    ensures { IfOk result (λ entries. Adds (procedures_strings (map procedure_of procedures.now)) code.old code.new (EachFramed (map procedure_of procedures.now) entries)) }
+{
+    let mut entries = Items::new(code.alloc());
+    for procedure in procedures {
+        entries.push((code.len() % 65_536) as u16)?;
+        emit_framed(code, procedure.body.as_slice())?;
+    }
+    Ok(entries)
+}
+
+/// The code of a program module, with labels, and where each of its procedures begins in it.
+#[derive(Drop)]
+struct Drafted<'m> {
+    code: CodeBuffer<'m>,
+    entries: Items<u16>,
+}
+
+/// The body of a program module, and its procedures behind it.
+fn emit_module<'m>(alloc: Global, m: &'m RModule) -> Result<Drafted<'m>, Memory>
+    ensures { IfOk result (λ made. Adds (module_strings (module_of m.now)) (empty m.now.shapes m.now.targets m.now.variables m.now.words) made.code (AllFramed (module_of m.now) made.entries)) }
+{
     let mut code = CodeBuffer::new(
         alloc,
         m.shapes.as_slice(),
@@ -49,10 +81,9 @@ fn emit_module<'m>(alloc: Global, m: &'m RModule) -> Result<CodeBuffer<'m>, Memo
         m.variables.as_slice(),
         m.words,
     );
-    code.put(Instr::Ent(frame_words(body)))?;
-    emit_body(&mut code, body, around)?;
-    code.put(Instr::Rtn)?;
-    Ok(code)
+    emit_framed(&mut code, m.body.as_slice())?;
+    let entries = emit_procedures(&mut code, m.procedures.as_slice())?;
+    Ok(Drafted { code, entries })
 }
 
 /// The code and the strings of a program module, where the code has at most 32,767 bytes. Its variables and strings have at
@@ -62,12 +93,12 @@ pub fn generate(alloc: Global, m: &RModule) -> Result<ModuleCode, GenStop>
     requires measured { IsMeasured m.now }
     requires fits { all_words (module_of m.now).variables + length (module_strings (module_of m.now)) ≤ 32000 }
     ensures strings { IfOk result (λ made. made.strings.items ≡ module_strings (module_of m.now)) }
-    ensures translates { IfOk result (λ made. Translates (module_of m.now) (module_strings (module_of m.now)) made.code) }
+    ensures translates { IfOk result (λ made. Translates (module_of m.now) (module_strings (module_of m.now)) made.entries made.code) }
     ensures long { IfOk result (λ made. length made.code ≡ spec.code_size (module_of m.now)) }
     ensures short { IfOk result (λ made. spec.code_size (module_of m.now) ≤ 32767) }
     ensures too_long { (bytes : ℕ) → result ≡ Err (GenStop.CodeTooLong bytes) → (32767 < spec.code_size (module_of m.now)) × (bytes ≡ min (spec.code_size (module_of m.now)) 4294967295) }
 {
-    let code = emit_module(alloc, m)?;
+    let Drafted { code, entries } = emit_module(alloc, m)?;
     let bytes = code.len();
     if LONGEST < bytes {
         return Err(GenStop::CodeTooLong {
@@ -76,6 +107,7 @@ pub fn generate(alloc: Global, m: &RModule) -> Result<ModuleCode, GenStop>
     }
     Ok(ModuleCode {
         code: code.settle(alloc)?,
+        entries,
         strings: code.strings(alloc)?,
     })
 }

@@ -5,7 +5,7 @@ use Rattle.lil_call.proofs.Steps.{statement_as}
 use Rattle.lil_call.proofs.call.statement.Goals as goal
 
 pub returns-in-Procedure : goal.returns-in-Procedure
-returns-in-Procedure c = statement_as c.args.t.now c.args.first c.args.arguments _ (callee.Procedure c.in-Procedure.sort) _ (of_procedure c.in-Procedure.sort) c.statement_call.result c.args.report.now c.statement_call.new.report c.in-Procedure.is c.of_procedure-v.ensures refl c.statement_call.ensures
+returns-in-Procedure c = statement_as c.args.t.now c.args.first c.args.arguments _ (callee.Procedure c.in-Procedure.sort c.in-Procedure.number c.in-Procedure.levels) _ (of_procedure c.in-Procedure.sort c.in-Procedure.number c.in-Procedure.levels) c.statement_call.result c.args.report.now c.statement_call.new.report c.in-Procedure.is c.of_procedure-v.ensures refl c.statement_call.ensures
 
 pub returns-in-Variable : goal.returns-in-Variable
 returns-in-Variable c = statement_as c.args.t.now c.args.first c.args.arguments _ (callee.Variable c.in-Variable.sort c.in-Variable.depth) _ (of_variable c.in-Variable.sort c.in-Variable.depth) c.statement_call-in-Variable.result c.args.report.now c.statement_call-in-Variable.new.report c.in-Variable.is c.of_variable-v.ensures refl c.statement_call-in-Variable.ensures

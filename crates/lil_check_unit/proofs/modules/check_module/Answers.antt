@@ -1,7 +1,7 @@
 use Rattle.std.proofs.Common.{sym, subst, ◌∙◌}
 use Rattle.std.proofs.lemmas.{Option.same_Some, Result.IfOk-weaker}
 use Rattle.lil_check_unit.specs.UnitLaws.{unit_speaks}
-use Rattle.lil_check_unit.proofs.{Kept.module_kept, Right.{made_there, unit_there}, UnitFaults.{wrong_unit, module_is, then_last}}
+use Rattle.lil_check_unit.proofs.{Kept.{module_kept, procedures_kept}, Right.{made_there, unit_there}, UnitFaults.{wrong_unit, module_is, then_last}}
 use Rattle.lil_check_unit.proofs.modules.check_module.Goals as goal
 use Rattle.lil_resolved.specs.{Sound.IsSound, Views.module_of as resolved_of}
 
@@ -22,6 +22,9 @@ returns-in-Ok-clause-there c = unit_there c.args.u.now c.requires.residents
 
 pub returns-in-Ok-clause-kept : goal.returns-in-Ok-clause-kept
 returns-in-Ok-clause-kept c = IfOk-weaker c.with_data.result _ _ (λ m made. module_kept c.args.u.now c.args.interfaces.now c.in-Ok.ensures.right.1 made) c.with_data.ensures.body
+
+pub returns-in-Ok-clause-all_kept : goal.returns-in-Ok-clause-all_kept
+returns-in-Ok-clause-all_kept c = IfOk-weaker c.with_data.result _ _ (λ m made. procedures_kept c.args.u.now c.args.interfaces.now m.procedures c.in-Ok.ensures.right.1 made) c.with_data.ensures.bodies
 
 pub returns-in-Ok-clause-sound : goal.returns-in-Ok-clause-sound
 returns-in-Ok-clause-sound c =

@@ -81,5 +81,7 @@ pub returns-in-Some-clause-at : goal.returns-in-Some-clause-at
 returns-in-Some-clause-at g c = λ k e.
     let looked = c.in_ok-end.ensures.at k (ap (λ (o : Option Ending). Ok o) (c.in-Some.is ∙ ap (λ (x : Ending). Some x) e)) in
     let ran = c.run-event.ensures.ran in
-    let stopped : c.run-event.new.self.state ≡ ran.before = stop_stays ran.before c.run-event.new.self.state c.run-event.result.0 ran.last (subst IsStop (sym looked.0) tt) in
-    ap (λ (m : Machine). m.at_module) looked.1 ∙ ran.in_module ∙ ap (λ (s : State). s.running) (sym stopped) ∙ ap (λ (m : Machine). m.state.running) (sym looked.1)
+    let stopped : c.run-event.new.self.state ≡ ran.before = stop_stays ran.before c.run-event.new.self.state c.run-event.result.0 ran.last (subst IsStop (sym looked.0) tt) in (
+      ap (λ (m : Machine). m.at_module) looked.1 ∙ ran.in_module ∙ ap (λ (s : State). s.running) (sym stopped) ∙ ap (λ (m : Machine). m.state.running) (sym looked.1),
+      ap (λ (m : Machine). m.at_place) looked.1 ∙ ran.at ∙ ap (λ (s : State). s.place) (sym stopped) ∙ ap (λ (m : Machine). m.state.place) (sym looked.1),
+    )

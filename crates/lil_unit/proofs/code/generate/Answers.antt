@@ -6,24 +6,26 @@ use Rattle.lil_unit.proofs.code.generate.Goals as goal
 
 pub returns-then-bytes-gt-LONGEST-clause-too_long : goal.returns-then-bytes-gt-LONGEST-clause-too_long
 returns-then-bytes-gt-LONGEST-clause-too_long c bytes told =
-    let long = draft_long c.args.m.now c.in_ok-code.code c.requires.sound c.requires.measured c.requires.fits c.in_ok-code.ensures in
+    let long = draft_long c.args.m.now c.in_ok-code.field-0.entries c.in_ok-code.field-0.code c.requires.sound c.requires.measured c.requires.fits c.in_ok-code.ensures in
     let same : c.counted.result ≡ bytes = cc in
     (omega (arith, long, c.len-bytes.ensures.bytes, c.if-bytes-gt-LONGEST.true), sym same ∙ c.counted.ensures ∙ ap (λ (n : ℕ). min n 4294967295) (c.len-bytes.ensures.bytes ∙ long))
 
 pub returns-clause-strings : goal.returns-clause-strings
 returns-clause-strings c =
-    c.in_ok-strings.ensures ∙ strings_are c.args.m.now c.in_ok-code.code c.requires.sound c.requires.measured c.requires.fits c.in_ok-code.ensures
+    c.in_ok-strings.ensures ∙ strings_are c.args.m.now c.in_ok-code.field-0.entries c.in_ok-code.field-0.code c.requires.sound c.requires.measured c.requires.fits c.in_ok-code.ensures
 
 pub returns-clause-translates : goal.returns-clause-translates
 returns-clause-translates c =
     let m = module_of c.args.m.now in
-    subst (λ (code : List ℕ). Translates m (module_strings m) code) (sym c.in_ok-settle.ensures)
-    (exact c.args.m.now c.in_ok-code.code c.requires.sound c.requires.measured c.requires.fits c.in_ok-code.ensures (omega (arith, c.len-bytes.ensures.bytes, c.if-bytes-gt-LONGEST.false))
-    (λ l q h. omega (arith, c.len-bytes.ensures.behind l q h, c.len-bytes.ensures.bytes)))
+    let made = c.in_ok-code.field-0 in
+    subst (λ (entries : List ℕ). Translates m (module_strings m) entries c.in_ok-settle.field-0) (sym c.entries.view_is)
+    (subst (λ (code : List ℕ). Translates m (module_strings m) made.entries code) (sym c.in_ok-settle.ensures)
+    (exact c.args.m.now made.entries made.code c.requires.sound c.requires.measured c.requires.fits c.in_ok-code.ensures (omega (arith, c.len-bytes.ensures.bytes, c.if-bytes-gt-LONGEST.false))
+    (λ l q h. omega (arith, c.len-bytes.ensures.behind l q h, c.len-bytes.ensures.bytes))))
 
 pub returns-clause-long : goal.returns-clause-long
-returns-clause-long c = ap length c.in_ok-settle.ensures ∙ settled_long c.args.m.now c.in_ok-code.code c.requires.sound c.requires.measured c.requires.fits c.in_ok-code.ensures
+returns-clause-long c = ap length c.in_ok-settle.ensures ∙ settled_long c.args.m.now c.in_ok-code.field-0.entries c.in_ok-code.field-0.code c.requires.sound c.requires.measured c.requires.fits c.in_ok-code.ensures
 
 pub returns-clause-short : goal.returns-clause-short
 returns-clause-short c =
-    omega (arith, draft_long c.args.m.now c.in_ok-code.code c.requires.sound c.requires.measured c.requires.fits c.in_ok-code.ensures, c.len-bytes.ensures.bytes, c.if-bytes-gt-LONGEST.false)
+    omega (arith, draft_long c.args.m.now c.in_ok-code.field-0.entries c.in_ok-code.field-0.code c.requires.sound c.requires.measured c.requires.fits c.in_ok-code.ensures, c.len-bytes.ensures.bytes, c.if-bytes-gt-LONGEST.false)
