@@ -7,7 +7,7 @@ use Rattle.lil_language.specs.declared.unit.Decl.TheVariants as d
 use Rattle.lil_language.specs.declared.unit.Decl.TheOpen as o
 use Rattle.lil_report.specs.{declared.report.Fault.Fault, Told.{Row, row, noted, after, walk, Said}, Laws.{said_as, said_to, said_after, said_map, walk_map}}
 use Rattle.lil_declared.specs.declared.declared.RProc.{RProc}
-use Rattle.lil_scope.specs.{declared.{entering.Around.Around, env.{Env.Env, Wait.Wait}}, Names.{inside, entered, outside, around, back, with_block}}
+use Rattle.lil_scope.specs.{declared.{entering.Around.Around, env.{Env.Env, Wait.Wait}}, Names.{inside, entered, outside, around, back, begun}}
 use Rattle.lil_check_value.specs.Looks.{said_not_built}
 use Rattle.lil_check_type.specs.{Walks.walk_steps, Made.Made, Records.no_parameters}
 use Rattle.lil_check_decl.specs.{declared.home.Home.Home, Constants.constant_step, Headings.{Headed, section_step, home_at, named_means, heading_type, has_more, heading_means}, Decls.{Means, Sense, with_no_types, expecting, decl_step, type_step, variables_step, block_end, procedure_means, alone_means, decl_layer, block_layer, decl_sense, decls_inside}}
@@ -65,10 +65,10 @@ module _ (e : Env) {r : Option Fault} where
       (subst (λ (z : Env × List Row). Said z t v s) (λ j. decls_inside (now j) ((enters ∙ ap (λ (n : ℕ). entered n f) number) j) (these j)) m))
       (leaves ∙ ap (λ a. back a v) stands)))
 
-  pub is_heading : (h : Heading) (more : Bool) (k : ℕ) (ss : List Section) {b : Env} {home : Home} {q : Headed} {m : Made} {f : Env} {a s t u : Option Fault} → more ≡ has_more h → a ≡ noted r (row more h.place NotBuilt) → k ≡ length e.scopes.blocks → b ≡ with_block e → home ≡ home_at b k → ss ≡ h.sections
+  pub is_heading : (h : Heading) (more : Bool) (k : ℕ) (ss : List Section) {b : Env} {home : Home} {q : Headed} {m : Made} {f : Env} {a s t u : Option Fault} → more ≡ has_more h → a ≡ noted r (row more h.place NotBuilt) → k ≡ length e.scopes.blocks → b ≡ begun e → home ≡ home_at b k → ss ≡ h.sections
       → Said {A = Headed} (walk (section_step home) (b, no_parameters) ss) a q t → Said (heading_type q h) t m u → Said (named_means k h.name m) u f s → Said (heading_means e h) r f s
   is_heading h more k ss {b = b} {home = home} {q = q} {m = m} {f = f} {a = a} {s = s} {t = t} {u = u} has note num new is these l n p = said_not_built (has_more h) h.place (note ∙ ap (λ (b : Bool). noted r (row b h.place NotBuilt)) has) (said_after _ _
-      (subst (λ k. Said {A = Headed} (walk (section_step (home_at e k)) (with_block e, no_parameters) h.sections) a q t) num
+      (subst (λ k. Said {A = Headed} (walk (section_step (home_at e k)) (begun e, no_parameters) h.sections) a q t) num
       (subst (λ b. Said {A = Headed} (walk (section_step (home_at b k)) (b, no_parameters) h.sections) a q t) new
       (subst (λ home. Said {A = Headed} (walk (section_step home) (b, no_parameters) h.sections) a q t) is
       (subst (λ ss. Said {A = Headed} (walk (section_step home) (b, no_parameters) ss) a q t) these l))))

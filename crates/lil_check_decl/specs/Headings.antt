@@ -1,28 +1,32 @@
 -- Variables and parameters, and the headings of procedures.
 use Rattle.std.specs.Prelude.{ℕ, ◌+◌, nat_le, length, is_some, not, ◌||◌, Bool, true, false, List, [], ◌∷◌, ◌++◌, Option, Some, None}
-use Rattle.lil_base.specs.declared.fault.FaultKind.TheVariants.{TooManyProcs, NotBuilt}
+use Rattle.lil_base.specs.declared.fault.FaultKind.TheVariants.{TooManyProcs}
 use Rattle.lil_text.specs.declared.tree.Ident.{Ident}
 use Rattle.lil_language.specs.declared.unit.{Section.Section, Heading.Heading}
 use Rattle.lil_declared.specs.declared.declared.Mode.{Mode, TheVariants.{Plain, Value, Place, OpenValue, OpenPlace}}
-use Rattle.lil_declared.specs.declared.declared.RProc.{RProc}
+use Rattle.lil_declared.specs.declared.declared.{RProc.RProc, RVar.RVar}
 use Rattle.lil_report.specs.Told.{Row, row, after, walk}
-use Rattle.lil_scope.specs.{declared.{thing.Thing.Thing, env.Env.Env}, Names.{bind, bind_at, with_block, level, visible, chain}}
+use Rattle.lil_scope.specs.{declared.{thing.Thing.Thing, env.Env.Env}, Names.{bind, bind_at, begun, with_local, variables_of, level, visible, chain}}
 use Rattle.lil_scope.specs.declared.thing.Thing.TheVariants as t
 use Rattle.lil_check_value.specs.Looks.{type_named, not_built}
 use Rattle.lil_check_type.specs.{declared.routines.Parameters.Parameters, Made.{Made, form_node}, Records.{sort_or, no_parameters, with_parameter, result_means, procedure_form}}
 use Rattle.lil_check_decl.specs.declared.home.Home.{Home}
 
--- ---- variables, by their number
+-- ---- variables, by their number among those of their owner
 abbrev pub variable_thing : Home → Option ℕ → Env → Thing
-variable_thing h (Some n) e = t.Variable (record { number = length e.variables; level = h.level; sort = n; mode = h.mode })
+variable_thing h (Some n) e = t.Variable (record { number = length (variables_of e h.owner); level = h.level; sort = n; mode = h.mode })
 variable_thing h None e = t.Broken
 
--- one whose type has a fault has a number too. 90 NotBuilt: it belongs to a procedure
+abbrev pub and_variable : Option ℕ → RVar → Env → Env
+and_variable None v e = record e { variables = e.variables ++ v ∷ [] }
+and_variable (Some p) v e = record e { locals = with_local e.locals p v }
+
+-- one whose type has a fault has a number too
 abbrev pub with_variable : Home → Option ℕ → List ℕ → Env → Env
-with_variable h o name e = record e { variables = e.variables ++ record { name = name; sort = sort_or o; mode = h.mode; owner = h.owner } ∷ [] }
+with_variable h o name e = and_variable h.owner (record { name = name; sort = sort_or o; mode = h.mode }) e
 
 abbrev pub variable_step : Home → Option ℕ → Env → Ident → Env × List Row
-variable_step h o e i = after (bind_at h.block e i (variable_thing h o e)) (λ f. (with_variable h o i.name f, row (is_some h.owner) i.place NotBuilt ∷ []))
+variable_step h o e i = after (bind_at h.block e i (variable_thing h o e)) (λ f. (with_variable h o i.name f, []))
 
 -- the block at hand as home of its variables
 abbrev pub here : Env → Home
@@ -76,7 +80,7 @@ named_means block i m = after (bind m.0 i (procedure_thing block m.1 m.0)) (numb
 
 -- a heading stands in the block around its procedure, and its name is bound there behind it
 abbrev pub sections_mean : Env → Heading → Headed × List Row
-sections_mean e h = walk (section_step (home_at e (length e.scopes.blocks))) (with_block e, no_parameters) h.sections
+sections_mean e h = walk (section_step (home_at e (length e.scopes.blocks))) (begun e, no_parameters) h.sections
 
 abbrev pub heading_type : Headed → Heading → Made × List Row
 heading_type q h = after (result_means q.0 h.result) (λ n. form_node q.0 h.place (procedure_form q.1 n))

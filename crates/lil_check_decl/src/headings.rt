@@ -16,12 +16,22 @@ use lil_text::Ident;
 use lil_types::TypeId;
 use std::alloc::Global;
 
+/// How many variables an owner has: a procedure, or the module.
+fn count_of(env: &Env, owner: Option<usize>) -> usize
+    ensures { result ≡ length (names.variables_of env.now owner) }
+{
+    match owner {
+        None => env.variables.len(),
+        Some(owner) => env.locals.of(owner).len(),
+    }
+}
+
 fn variable_thing(home: Home, sort: Option<TypeId>, env: &Env) -> Thing
     ensures { result ≡ spec.variable_thing home sort env.now }
 {
     match sort {
         Some(sort) => Thing::Variable(Variable {
-            number: env.variables.len(),
+            number: count_of(env, home.owner),
             level: home.level,
             sort,
             mode: home.mode,
@@ -40,12 +50,15 @@ fn add_variable(
     ensures { IfOk result (λ o. env.new ≡ spec.with_variable home sort of.now.name env.old) }
 {
     let name = of.name.copy(alloc)?;
-    env.variables.push(RVar {
+    let variable = RVar {
         name,
         sort: sort_or(sort),
         mode: home.mode,
-        owner: home.owner,
-    })
+    };
+    match home.owner {
+        None => env.variables.push(variable),
+        Some(owner) => env.locals.declare(owner, variable),
+    }
 }
 
 /// A variable or parameter.
@@ -61,7 +74,6 @@ fn variable(
 {
     let thing = variable_thing(home, sort, env);
     bind_at(alloc, env, report, home.block, of, thing)?;
-    report.note(home.owner.is_some(), of.place, FaultKind::NotBuilt);
     add_variable(alloc, env, home, sort, of)
 }
 
@@ -203,10 +215,12 @@ fn home_at(env: &Env, block: usize) -> Home
     }
 }
 
+/// The block and the variables of the next procedure begin, without any.
 fn begin(alloc: Global, env: &mut Env) -> Result<usize, Memory>
     ensures number { IfOk result (λ n. n ≡ length env.old.scopes.blocks) }
-    ensures more { IfOk result (λ n. env.new ≡ names.with_block env.old) }
+    ensures more { IfOk result (λ n. env.new ≡ names.begun env.old) }
 {
+    env.locals.begin(alloc)?;
     env.scopes.blocks.begin(alloc)
 }
 

@@ -1,11 +1,11 @@
 -- What stands between FOR and DO.
-use Rattle.std.specs.Prelude.{ℕ, ◌==◌, slice_get, ℤ, pos, negsuc, int_lt, Bool, true, false, not, ◌&&◌, ◌||◌, List, [], ◌∷◌, Option, Some, None, if◌then◌else◌}
+use Rattle.std.specs.Prelude.{ℤ, pos, negsuc, int_lt, Bool, true, false, not, ◌&&◌, ◌||◌, List, [], ◌∷◌, Option, Some, None, if◌then◌else◌}
 use Rattle.lil_base.specs.Words.{Integer, in_type, is_zero}
 use Rattle.lil_base.specs.declared.fault.{Place.Place, FaultKind.TheVariants.{Unknown, WrongKind, ForVariable, Assign, ConstRange, NotConst, Operands}}
 use Rattle.lil_types.specs.Types.{Table}
 use Rattle.lil_language.specs.declared.tree.{Expr.Expr, ForHead.ForHead}
 use Rattle.lil_declared.specs.declared.{declared.Mode.{Mode, TheVariants.Plain}, RVar.RVar}
-use Rattle.lil_resolved.specs.declared.resolved.{RExpr.RExpr, RKind.RKind, RStmt.RStmt, RVariable.RVariable}
+use Rattle.lil_resolved.specs.declared.resolved.{RExpr.RExpr, RKind.RKind, RNamed.RNamed, RStmt.RStmt, RVariable.RVariable}
 use Rattle.lil_resolved.specs.declared.resolved.RStmt.TheVariants as r
 use Rattle.lil_report.specs.Told.{Row, row, after, pure}
 use Rattle.lil_scope.specs.declared.{env.Env.Env, thing.{Kind.Kind, Thing.Thing, Variable.Variable}}
@@ -13,7 +13,7 @@ use Rattle.lil_scope.specs.declared.thing.Kind.TheVariants as k
 use Rattle.lil_scope.specs.declared.thing.Thing.TheVariants as t
 use Rattle.lil_kinds.specs.{declared.found.Found.Found, Kinds.{assignable, misses, compatible, is_ordinal, is_constant}}
 use Rattle.lil_shapes.specs.Bases.{kind_at}
-use Rattle.lil_forms.specs.Values.{typed}
+use Rattle.lil_forms.specs.{Values.typed, Variables.{named_at, seen}}
 use Rattle.lil_check_value.specs.{declared.names.Looked.Looked, Looks.look, Values.means}
 use Rattle.lil_check_value.specs.declared.names.Looked.TheVariants as l
 use Rattle.lil_check_type.specs.Nodes.{node}
@@ -48,21 +48,21 @@ is_unfit ts l.Nothing = false
 is_unfit ts (l.Field at n s) = true
 is_unfit ts (l.Thing th) = is_unfit_thing ts th
 
-abbrev pub variable_by : ℕ → Option RKind → Option RVariable
+abbrev pub variable_by : RNamed → Option RKind → Option RVariable
 variable_by n None = None
-variable_by n (Some j) = Some (record { number = n; kind = j })
+variable_by n (Some j) = Some (record { named = n; kind = j })
 
-abbrev pub variable_in : Table → ℕ → Option RVar → Option RVariable
-variable_in t n None = None
-variable_in t n (Some v) = variable_by n (kind_at t v.sort)
+-- one that is seen
+unfoldable pub counted_variable : Table → RNamed → Option RVar → Option RVariable
+counted_variable t n None = None
+counted_variable t n (Some v) = variable_by n (kind_at t v.sort)
 
--- a variable of the module, by its number
-unfoldable pub counted_variable : Table → List RVar → ℕ → Option RVariable
-counted_variable t vs n = variable_in t n (slice_get vs n)
+abbrev pub counting_named : Env → Option RNamed → Option RVariable
+counting_named e None = None
+counting_named e (Some n) = counted_variable e.types n (seen e n)
 
--- those of procedures have no code
 abbrev pub counting_with : Env → Variable → Option RVariable
-counting_with e v = if v.level == 1 then counted_variable e.types e.variables v.number else None
+counting_with e v = counting_named e (named_at e v)
 
 abbrev pub counter_thing : Env → Thing → Option Counter
 counter_thing e (t.Variable v) = Some (record { variable = counting_with e v; sort = v.sort })

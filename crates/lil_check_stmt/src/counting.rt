@@ -1,4 +1,5 @@
 ghost use Rattle.std.specs.Prelude.{◌≡◌, Some, None, if◌then◌else◌, IfOk};
+ghost use Rattle.std.specs.Option.{option_copied};
 ghost use Rattle.lil_report.specs.Told.{Said};
 ghost use Rattle.lil_check_value.specs.Looks.{look as look_of};
 ghost use Rattle.lil_check_stmt.specs.Counting as spec;
@@ -6,11 +7,11 @@ ghost use Rattle.lil_check_stmt.specs.Counting as spec;
 use lil_base::{Boxed, FaultKind, Items, Memory, Place, beside};
 use lil_check_value::{Looked, boxed_expression, look};
 use lil_declared::{Mode, RVar};
-use lil_forms::typed;
+use lil_forms::{named_at, seen, typed};
 use lil_kinds::{Found, assignable, compatible, is_constant, is_ordinal, misses};
 use lil_language::{Expr, ForHead};
 use lil_report::Report;
-use lil_resolved::{RExpr, RStmt, RVariable};
+use lil_resolved::{RExpr, RNamed, RStmt, RVariable};
 use lil_scope::{Env, Kind, Thing, Variable};
 use lil_shapes::kind_at;
 use lil_types::{TypeId, TypeTable};
@@ -38,16 +39,16 @@ pub(crate) struct Count {
     pub(crate) by: i32,
 }
 
-/// A variable of the module by its number, with which a FOR counts.
+/// A variable with which a FOR counts, where it is seen.
 #[tactic(auto, unfolding(crate::specs::Counting::counted_variable))]
-fn counted_variable(t: &TypeTable, variables: &[RVar], number: usize) -> Option<RVariable>
-    ensures { result ≡ spec.counted_variable t.now variables.now number }
+fn counted_variable(t: &TypeTable, named: RNamed, of: Option<&RVar>) -> Option<RVariable>
+    ensures { result ≡ spec.counted_variable t.now named (option_copied of.entry) }
 {
-    match variables.get(number) {
+    match of {
         None => None,
         Some(variable) => match kind_at(t, variable.sort) {
             None => None,
-            Some(kind) => Some(RVariable { number, kind }),
+            Some(kind) => Some(RVariable { named, kind }),
         },
     }
 }
@@ -154,14 +155,12 @@ fn is_unfit(t: &TypeTable, of: Looked) -> bool
     }
 }
 
-/// A variable of the module; those of procedures have no code.
 fn counting_with(env: &Env, of: Variable) -> Option<RVariable>
     ensures { result ≡ spec.counting_with env.now of }
 {
-    if of.level == 1 {
-        counted_variable(&env.types, env.variables.as_slice(), of.number)
-    } else {
-        None
+    match named_at(env, of) {
+        None => None,
+        Some(named) => counted_variable(&env.types, named, seen(env, named)),
     }
 }
 

@@ -1,12 +1,12 @@
 -- Numbers that are bytes, and procedures that get their bodies one behind another.
-use Rattle.std.proofs.Common.{◌≡◌, ℕ, zero, suc, ◌+◌, ◌<◌, ◌≤◌, Bool, true, false, List, [], ◌∷◌, ◌++◌, length, map, take, drop, get_or, Option, Some, None, if◌then◌else◌, refl, sym, ap, subst, ◌∙◌, arith, append_assoc, append-nil}
-use Rattle.std.specs.{Prelude.{◌&&◌, nat_lt}, Option.option_map}
-use Rattle.std.proofs.lemmas.{Bool.Decides.nat_tests, List.take_more}
+use Rattle.std.proofs.Common.{◌≡◌, ℕ, zero, suc, ◌+◌, ◌<◌, ◌≤◌, Bool, true, false, List, [], ◌∷◌, ◌++◌, length, map, take, drop, get_or, Option, Some, None, refl, sym, ap, subst, ◌∙◌, arith, append_assoc, append-nil}
+use Rattle.std.specs.{Prelude.{◌&&◌, nat_lt}, Option.option_map, List.All}
+use Rattle.std.proofs.lemmas.{Bool.Decides.nat_tests, List.{take_more, Elements.All-push}}
 use Rattle.lil_declared.specs.declared.declared.RProc.{RProc}
-use Rattle.lil_resolved.specs.{declared.resolved.{RProcedure.RProcedure, RStmt.RStmt}, Resolved.Procedure, Views.procedure_of}
+use Rattle.lil_resolved.specs.{declared.{resolved.{RProcedure.RProcedure, RStmt.RStmt}, shapes.RShape.RShape}, Kinds.Shape, Resolved.Procedure, Views.{heading_of, procedure_of, IsMeasuredHeading}}
 use Rattle.lil_forms.specs.Scopes.{both_left, both_right}
 use Rattle.lil_check_stmt.specs.Stmts.{Bodies}
-use Rattle.lil_check_unit.specs.Modules.{are_bytes, made_of, and_procedure, procedures_with}
+use Rattle.lil_check_unit.specs.Modules.{are_bytes, made_of, and_procedure, procedures_from}
 use Rattle.lil_check_unit.specs.Whole.{body_of}
 
 -- ---- numbers
@@ -37,58 +37,68 @@ no_byte [] i x inside is high = absurd (omega (arith, inside))
 no_byte (y ∷ ys) zero x inside is high = let none : nat_lt y 255 ≡ false = grind (arith, nat_tests, is, high) in λ j. none j && are_bytes ys
 no_byte (y ∷ ys) (suc i) x inside is high = ap (λ (c : Bool). nat_lt y 255 && c) (no_byte ys i x (omega (arith, inside)) is high) ∙ and_none (nat_lt y 255)
 
--- ---- procedures: those that are made, and what is left
-pub record IsSoFar (of : List RProc) (bodies : Bodies) (made : List RProcedure) (ds : List RProc) (left : Bodies) : Type 0 where
-  pub means : option_map (λ (rest : List Procedure). map procedure_of made ++ rest) (procedures_with ds left) ≡ procedures_with of bodies
-  pub kept : map body_of made ++ left ≡ bodies
+-- ---- procedures: those that are made, and what is left from a number on, by the shapes of their variables
+module _ (ts : List RShape) (locals : ℕ → Option (List Shape)) (of : List RProc) (bodies : Bodies) where
+  pub record IsSoFar (made : List RProcedure) (p : ℕ) (ds : List RProc) (left : Bodies) : Type 0 where
+    pub means : option_map (λ (rest : List Procedure). map (procedure_of ts) made ++ rest) (procedures_from locals p ds left) ≡ procedures_from locals 0 of bodies
+    pub kept : map body_of made ++ left ≡ bodies
+    pub measured : All (IsMeasuredHeading ts) (map heading_of made)
 
-pub none_made : (of : List RProc) (bodies : Bodies) → IsSoFar of bodies [] of bodies
-none_made of bodies = record { means = same (procedures_with of bodies); kept = refl }
-  where
-    same : (o : Option (List Procedure)) → option_map (λ (rest : List Procedure). [] ++ rest) o ≡ o
-    same None = refl
-    same (Some ps) = refl
+  pub none_made : IsSoFar [] 0 of bodies
+  none_made = record { means = same (procedures_from locals 0 of bodies); kept = refl; measured = λ k d less. absurd (omega (arith, less)) }
+    where
+      same : (o : Option (List Procedure)) → option_map (λ (rest : List Procedure). [] ++ rest) o ≡ o
+      same None = refl
+      same (Some ps) = refl
 
-pub one_made : (of : List RProc) (bodies : Bodies) (made : List RProcedure) (d : RProc) (ds : List RProc) (b : Option (List RStmt)) (left : Bodies) (p : RProcedure)
-    → made_of d b ≡ Some (procedure_of p) → body_of p ≡ b → IsSoFar of bodies made (d ∷ ds) (b ∷ left) → IsSoFar of bodies (made ++ p ∷ []) ds left
-one_made of bodies made d ds b left p is body h = record {
-  means = by (procedures_with ds left) ∙ ap (λ (o : Option Procedure). option_map (λ (rest : List Procedure). map procedure_of made ++ rest) (and_procedure o (procedures_with ds left))) (sym is) ∙ h.means;
-  kept = ap (λ (xs : Bodies). xs ++ left) (map_one body_of made p) ∙ append_assoc (map body_of made) (body_of p ∷ []) left ∙ ap (λ (o : Option (List RStmt)). map body_of made ++ o ∷ left) body ∙ h.kept;
-}
-  where
-    by : (o : Option (List Procedure)) → option_map (λ (rest : List Procedure). map procedure_of (made ++ p ∷ []) ++ rest) o ≡ option_map (λ (rest : List Procedure). map procedure_of made ++ rest) (and_procedure (Some (procedure_of p)) o)
-    by None = refl
-    by (Some ps) = ap Some (ap (λ (xs : List Procedure). xs ++ ps) (map_one procedure_of made p) ∙ append_assoc (map procedure_of made) (procedure_of p ∷ []) ps)
+  module _ (made : List RProcedure) (n : ℕ) where
+    abbrev behind : Option (List Procedure) → Option (List Procedure)
+    behind o = option_map (λ (rest : List Procedure). map (procedure_of ts) made ++ rest) o
 
--- one has no code
-pub not_made : (of : List RProc) (bodies : Bodies) (made : List RProcedure) (d : RProc) (ds : List RProc) (b : Option (List RStmt)) (left : Bodies) → made_of d b ≡ None → IsSoFar of bodies made (d ∷ ds) (b ∷ left) → procedures_with of bodies ≡ None
-not_made of bodies made d ds b left is h = sym h.means ∙ ap (λ (o : Option Procedure). option_map (λ (rest : List Procedure). map procedure_of made ++ rest) (and_procedure o (procedures_with ds left))) is
+    pub one_made : (d : RProc) (ds : List RProc) (b : Option (List RStmt)) (left : Bodies) (p : RProcedure)
+        → Some (procedure_of ts p) ≡ made_of d (locals n) b → body_of p ≡ b → IsMeasuredHeading ts p.heading → IsSoFar made n (d ∷ ds) (b ∷ left) → IsSoFar (made ++ p ∷ []) (n + 1) ds left
+    one_made d ds b left p is body measured h = subst (λ (k : ℕ). IsSoFar (made ++ p ∷ []) k ds left) next (record {
+      means = by (procedures_from locals (suc n) ds left) ∙ ap (λ (o : Option Procedure). behind (and_procedure o (procedures_from locals (suc n) ds left))) is ∙ h.means;
+      kept = ap (λ (xs : Bodies). xs ++ left) (map_one body_of made p) ∙ append_assoc (map body_of made) (body_of p ∷ []) left ∙ ap (λ (o : Option (List RStmt)). map body_of made ++ o ∷ left) body ∙ h.kept;
+      measured = subst (All (IsMeasuredHeading ts)) (sym (map_one heading_of made p)) (All-push (IsMeasuredHeading ts) (map heading_of made) p.heading h.measured measured);
+    })
+      where
+        next : suc n ≡ n + 1
+        next = omega arith
 
-pub no_body : (of : List RProc) (bodies : Bodies) (made : List RProcedure) (d : RProc) (ds : List RProc) → IsSoFar of bodies made (d ∷ ds) [] → procedures_with of bodies ≡ None
-no_body of bodies made d ds h = sym h.means
+        by : (o : Option (List Procedure)) → option_map (λ (rest : List Procedure). map (procedure_of ts) (made ++ p ∷ []) ++ rest) o ≡ behind (and_procedure (Some (procedure_of ts p)) o)
+        by None = refl
+        by (Some ps) = ap Some (ap (λ (xs : List Procedure). xs ++ ps) (map_one (procedure_of ts) made p) ∙ append_assoc (map (procedure_of ts) made) (procedure_of ts p ∷ []) ps)
 
-pub all_made : (of : List RProc) (bodies : Bodies) (made : List RProcedure) → IsSoFar of bodies made [] [] → (Some (map procedure_of made) ≡ procedures_with of bodies) × (map body_of made ≡ bodies)
-all_made of bodies made h = (ap Some (sym (append-nil (map procedure_of made))) ∙ h.means, sym (append-nil (map body_of made)) ∙ h.kept)
+    -- one has no code
+    pub not_made : (d : RProc) (ds : List RProc) (b : Option (List RStmt)) (left : Bodies) → None ≡ made_of d (locals n) b → IsSoFar made n (d ∷ ds) (b ∷ left) → None ≡ procedures_from locals 0 of bodies
+    not_made d ds b left is h = ap (λ (o : Option Procedure). behind (and_procedure o (procedures_from locals (suc n) ds left))) is ∙ h.means
 
-pub too_many : (of : List RProc) (bodies : Bodies) (made : List RProcedure) (b : Option (List RStmt)) (left : Bodies) → IsSoFar of bodies made [] (b ∷ left) → procedures_with of bodies ≡ None
-too_many of bodies made b left h = sym h.means
+    pub no_body : (d : RProc) (ds : List RProc) → IsSoFar made n (d ∷ ds) [] → None ≡ procedures_from locals 0 of bodies
+    no_body d ds h = h.means
 
--- the next of those that are left
-pub next_left : (of : List RProc) (bodies : Bodies) (made : List RProcedure) (i : ℕ) (d : RProc) (left : Bodies) → i < length of → d ≡ get_or of i d → IsSoFar of bodies made (drop i of) left → IsSoFar of bodies made (d ∷ drop (i + 1) of) left
-next_left of bodies made i d left inside is h =
-    let next : suc i ≡ i + 1 = omega arith in
-    subst (λ (ds : List RProc). IsSoFar of bodies made ds left) (split of i d inside is ∙ ap (λ (n : ℕ). d ∷ drop n of) next) h
-  where
-    split : (xs : List RProc) (i : ℕ) (x : RProc) → i < length xs → x ≡ get_or xs i x → drop i xs ≡ x ∷ drop (suc i) xs
-    split [] i x inside is = absurd (omega (arith, inside))
-    split (y ∷ ys) zero x inside is = ap (λ (z : RProc). z ∷ ys) (sym is)
-    split (y ∷ ys) (suc i) x inside is = split ys i x (omega (arith, inside)) is
+    pub all_made : IsSoFar made n [] [] → (Some (map (procedure_of ts) made) ≡ procedures_from locals 0 of bodies) × (map body_of made ≡ bodies)
+    all_made h = (ap Some (sym (append-nil (map (procedure_of ts) made))) ∙ h.means, sym (append-nil (map body_of made)) ∙ h.kept)
 
-pub none_left : (of : List RProc) (bodies : Bodies) (made : List RProcedure) (i : ℕ) (left : Bodies) → length of ≤ i → IsSoFar of bodies made (drop i of) left → IsSoFar of bodies made [] left
-none_left of bodies made i left past h = subst (λ (ds : List RProc). IsSoFar of bodies made ds left) (gone of i past) h
-  where
-    gone : (xs : List RProc) (i : ℕ) → length xs ≤ i → drop i xs ≡ []
-    gone [] zero past = refl
-    gone [] (suc i) past = refl
-    gone (x ∷ xs) zero past = absurd (omega (arith, past))
-    gone (x ∷ xs) (suc i) past = gone xs i (omega (arith, past))
+    pub too_many : (b : Option (List RStmt)) (left : Bodies) → IsSoFar made n [] (b ∷ left) → None ≡ procedures_from locals 0 of bodies
+    too_many b left h = h.means
+
+    -- the next of those that are left
+    pub next_left : (d : RProc) (left : Bodies) → n < length of → d ≡ get_or of n d → IsSoFar made n (drop n of) left → IsSoFar made n (d ∷ drop (n + 1) of) left
+    next_left d left inside is h =
+        let next : suc n ≡ n + 1 = omega arith in
+        subst (λ (ds : List RProc). IsSoFar made n ds left) (split of n d inside is ∙ ap (λ (k : ℕ). d ∷ drop k of) next) h
+      where
+        split : (xs : List RProc) (i : ℕ) (x : RProc) → i < length xs → x ≡ get_or xs i x → drop i xs ≡ x ∷ drop (suc i) xs
+        split [] i x inside is = absurd (omega (arith, inside))
+        split (y ∷ ys) zero x inside is = ap (λ (z : RProc). z ∷ ys) (sym is)
+        split (y ∷ ys) (suc i) x inside is = split ys i x (omega (arith, inside)) is
+
+    pub none_left : (left : Bodies) → length of ≤ n → IsSoFar made n (drop n of) left → IsSoFar made n [] left
+    none_left left past h = subst (λ (ds : List RProc). IsSoFar made n ds left) (gone of n past) h
+      where
+        gone : (xs : List RProc) (i : ℕ) → length xs ≤ i → drop i xs ≡ []
+        gone [] zero past = refl
+        gone [] (suc i) past = refl
+        gone (x ∷ xs) zero past = absurd (omega (arith, past))
+        gone (x ∷ xs) (suc i) past = gone xs i (omega (arith, past))

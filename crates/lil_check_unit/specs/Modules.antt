@@ -1,11 +1,11 @@
 -- The module that what is declared and stated makes.
-use Rattle.std.specs.Prelude.{ℕ, ◌+◌, nat_le, nat_lt, ◌&&◌, Bool, true, List, [], ◌∷◌, length, map, Option, Some, None, if◌then◌else◌}
+use Rattle.std.specs.Prelude.{ℕ, suc, ◌+◌, nat_le, nat_lt, ◌&&◌, Bool, true, List, [], ◌∷◌, length, map, Option, Some, None, if◌then◌else◌}
 use Rattle.lil_types.specs.Types.{Table}
 use Rattle.lil_declared.specs.declared.declared.{RProc.RProc, RVar.RVar}
 use Rattle.lil_resolved.specs.{Resolved.{Statements, Procedure, Resolved}, Kinds.{Shape, all_words}, Sizes.module_strings, Views.statements_of, declared.resolved.RStmt.RStmt}
-use Rattle.lil_scope.specs.declared.env.Env.{Env}
+use Rattle.lil_scope.specs.{Names.locals_in, declared.env.Env.Env}
 use Rattle.lil_check_stmt.specs.declared.stmt.Stated.{Stated}
-use Rattle.lil_shapes.specs.{Measured.variable_name, Pointers.targets, Shaping.{shapes, variables_by}}
+use Rattle.lil_shapes.specs.{Measured.variable_name, Pointers.targets, Shaping.{all_some, lying, shapes, variables_by}}
 
 -- the statements of a block stand in no WITH
 abbrev pub in_no_with : Env → Env
@@ -24,26 +24,30 @@ abbrev pub are_bytes : List ℕ → Bool
 are_bytes [] = true
 are_bytes (n ∷ ns) = nat_lt n 255 && are_bytes ns
 
-abbrev pub procedure_with : RProc → List RStmt → Procedure
-procedure_with q ss = record { name = q.name; around = map (λ n. n + 1) q.around; body = statements_of ss }
+abbrev pub procedure_with : RProc → List Shape → List RStmt → Procedure
+procedure_with q locals ss = record { name = q.name; around = map (λ n. n + 1) q.around; locals = locals; body = statements_of ss }
 
-abbrev pub made_of : RProc → Option (List RStmt) → Option Procedure
-made_of q None = None
-made_of q (Some ss) = if are_bytes q.around then Some (procedure_with q ss) else None
+abbrev pub made_of : RProc → Option (List Shape) → Option (List RStmt) → Option Procedure
+made_of q (Some locals) (Some ss) = if are_bytes q.around then Some (procedure_with q locals ss) else None
+made_of q _ _ = None
 
 abbrev pub and_procedure : Option Procedure → Option (List Procedure) → Option (List Procedure)
 and_procedure None ps = None
 and_procedure (Some p) None = None
 and_procedure (Some p) (Some ps) = Some (p ∷ ps)
 
--- procedures with their bodies, in the order of their headings: none where one has no code
-abbrev pub procedures_with : List RProc → List (Option (List RStmt)) → Option (List Procedure)
-procedures_with [] [] = Some []
-procedures_with (q ∷ qs) (b ∷ bs) = and_procedure (made_of q b) (procedures_with qs bs)
-procedures_with _ _ = None
+-- what lies in the variables of a procedure, by its number
+abbrev pub locals_laid : List Shape → List (List RVar) → ℕ → Option (List Shape)
+locals_laid types ls p = all_some (map (lying types) (locals_in ls p))
 
--- by the types, the variables and the procedures
-module _ (t : Table) (vs : List RVar) (qs : List RProc) where
+-- procedures from a number on with their bodies, in the order of their headings: none where one has no code
+abbrev pub procedures_from : (ℕ → Option (List Shape)) → ℕ → List RProc → List (Option (List RStmt)) → Option (List Procedure)
+procedures_from locals p [] [] = Some []
+procedures_from locals p (q ∷ qs) (b ∷ bs) = and_procedure (made_of q (locals p) b) (procedures_from locals (suc p) qs bs)
+procedures_from locals p _ _ = None
+
+-- by the types, the variables of the module, the procedures and their variables
+module _ (t : Table) (vs : List RVar) (qs : List RProc) (ls : List (List RVar)) where
   abbrev pub module_with : List ℕ → (types variables : List Shape) → List Procedure → Statements → Resolved
   module_with n types ts ps ss = record { name = n; targets = targets t types; names = map variable_name vs; variables = ts; procedures = ps; body = ss }
 
@@ -52,19 +56,19 @@ module _ (t : Table) (vs : List RVar) (qs : List RProc) where
   with_variables n types None ps ss = None
   with_variables n types (Some ts) ps ss = with_room (module_with n types ts ps (statements_of ss))
 
-  abbrev pub laid_out : List ℕ → Option (List Shape) → List Procedure → List RStmt → Option Resolved
-  laid_out n None ps ss = None
-  laid_out n (Some types) ps ss = with_variables n types (variables_by (Some types) vs) ps ss
+  abbrev pub with_procedures : List ℕ → List Shape → Option (List Procedure) → List RStmt → Option Resolved
+  with_procedures n types None ss = None
+  with_procedures n types (Some ps) ss = with_variables n types (variables_by (Some types) vs) ps ss
 
-  abbrev pub with_procedures : List ℕ → Option (List Procedure) → List RStmt → Option Resolved
-  with_procedures n None ss = None
-  with_procedures n (Some ps) ss = laid_out n (shapes t) ps ss
+  abbrev pub laid_out : List ℕ → Option (List Shape) → List (Option (List RStmt)) → List RStmt → Option Resolved
+  laid_out n None bodies ss = None
+  laid_out n (Some types) bodies ss = with_procedures n types (procedures_from (locals_laid types ls) 0 qs bodies) ss
 
   -- none where a form has no code
   abbrev pub assembled_by : List ℕ → List (Option (List RStmt)) → Option (List RStmt) → Option Resolved
   assembled_by n bodies None = None
-  assembled_by n bodies (Some ss) = with_procedures n (procedures_with qs bodies) ss
+  assembled_by n bodies (Some ss) = laid_out n (shapes t) bodies ss
 
 -- the module of a name that what is declared and stated makes
 abbrev pub assembled : Env → List ℕ → Stated → Option Resolved
-assembled e n b = assembled_by e.types e.variables e.procedures n b.procedures b.body
+assembled e n b = assembled_by e.types e.variables e.procedures e.locals n b.procedures b.body

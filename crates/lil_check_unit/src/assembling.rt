@@ -1,18 +1,18 @@
 //! The module that what is declared and stated makes.
 
-ghost use Rattle.std.specs.Prelude.{◌≡◌, ◌≤◌, ◌+◌, None, map, option_map, if◌then◌else◌, IfOk, IfSome, Some};
-ghost use Rattle.lil_resolved.specs.Views.{module_of, procedure_of, statements_of, IsMeasured};
-ghost use Rattle.lil_shapes.specs.Measured.{shapes_in, shapes_laid, IsShaped, IsLaid};
+ghost use Rattle.std.specs.{Prelude.{◌≡◌, ◌≤◌, ◌+◌, None, map, option_map, if◌then◌else◌, IfOk, IfSome, Some}, List.All};
+ghost use Rattle.lil_resolved.specs.Views.{heading_of, module_of, procedure_of, statements_of, IsMeasured, IsMeasuredHeading};
+ghost use Rattle.lil_shapes.specs.{Measured.{shapes_in, shapes_laid, IsShaped, IsLaid}, Shaping.{all_some, lying}};
 ghost use Rattle.lil_check_unit.specs.Modules as spec;
 ghost use Rattle.lil_check_unit.specs.Whole.{body_of};
 ghost use Rattle.lil_check_unit.specs.Units.{IsThere};
 
 use lil_base::{Items, Memory, Name};
 use lil_check_stmt::Stated;
-use lil_declared::RProc;
-use lil_resolved::{RModule, RProcedure, RStmt};
-use lil_scope::Env;
-use lil_shapes::{Laid, Shaped, all_shapes, all_targets, lay};
+use lil_declared::{RProc, RVar};
+use lil_resolved::{RHeading, RModule, RProcedure, RStmt};
+use lil_scope::{Env, Locals};
+use lil_shapes::{Laid, Shaped, all_shapes, all_targets, lay, lay_locals};
 use std::alloc::Global;
 
 /// The numbers of procedures from 1, where all are bytes.
@@ -29,14 +29,18 @@ fn bytes(alloc: Global, of: &[usize]) -> Result<Option<Items<u8>>, Memory>
     Ok(Some(numbers))
 }
 
-/// A procedure with its body, where it has code.
+/// A procedure with its variables and its body, where it has code.
 fn procedure(
     alloc: Global,
+    types: &Shaped,
     of: &RProc,
+    variables: &[RVar],
     body: Option<Items<RStmt>>,
 ) -> Result<Option<RProcedure>, Memory>
-    ensures means { IfOk result (λ o. option_map procedure_of o ≡ spec.made_of of.now body) }
+    requires { IsShaped types.now }
+    ensures means { IfOk result (λ o. option_map (procedure_of types.now.shapes) o ≡ spec.made_of of.now (all_some (map (lying (shapes_in types.now)) variables.now)) body) }
     ensures body { IfOk result (λ o. IfSome o (λ p. body_of p ≡ body)) }
+    ensures measured { IfOk result (λ o. IfSome o (λ p. IsMeasuredHeading types.now.shapes p.heading)) }
 {
     let Some(body) = body else {
         return Ok(None);
@@ -44,26 +48,39 @@ fn procedure(
     let Some(around) = bytes(alloc, of.around.as_slice())? else {
         return Ok(None);
     };
+    let Some(laid) = lay_locals(alloc, types, variables)? else {
+        return Ok(None);
+    };
     let name = of.name.copy(alloc)?;
-    Ok(Some(RProcedure { name, around, body }))
+    let heading = RHeading {
+        name,
+        around,
+        locals: laid.variables,
+        words: laid.words,
+    };
+    Ok(Some(RProcedure { heading, body }))
 }
 
-/// Procedures with their bodies, where all have code.
+/// Procedures with their variables and their bodies, where all have code.
 fn procedures(
     alloc: Global,
+    types: &Shaped,
     of: &[RProc],
+    locals: &Locals,
     bodies: Items<Option<Items<RStmt>>>,
 ) -> Result<Option<Items<RProcedure>>, Memory>
-    ensures means { IfOk result (λ o. option_map (map procedure_of) o ≡ spec.procedures_with of.now bodies) }
+    requires { IsShaped types.now }
+    ensures means { IfOk result (λ o. option_map (map (procedure_of types.now.shapes)) o ≡ spec.procedures_from (spec.locals_laid (shapes_in types.now) locals.now) 0 of.now bodies) }
     ensures bodies { IfOk result (λ o. IfSome o (λ ps. map body_of ps ≡ bodies)) }
+    ensures measured { IfOk result (λ o. IfSome o (λ ps. All (IsMeasuredHeading types.now.shapes) (map heading_of ps))) }
 {
     let mut left = bodies;
     let mut made = Items::new(alloc);
-    for one in of {
+    for (number, one) in of.iter().enumerate() {
         let Some(body) = left.take_first() else {
             return Ok(None);
         };
-        let Some(procedure) = procedure(alloc, one, body)? else {
+        let Some(procedure) = procedure(alloc, types, one, locals.of(number), body)? else {
             return Ok(None);
         };
         made.push(procedure)?;
@@ -75,7 +92,7 @@ fn procedures(
     }
 }
 
-/// A module of a name, over shapes and variables that are made.
+/// A module of a name, over shapes, variables and procedures that are made.
 fn named(
     alloc: Global,
     name: &Name,
@@ -87,7 +104,8 @@ fn named(
 ) -> Result<RModule, Memory>
     requires shaped { IsShaped types }
     requires lies { IsLaid types declared.now.variables laid }
-    ensures means { IfOk result (λ m. module_of m ≡ spec.module_with declared.now.types declared.now.variables declared.now.procedures name.now (shapes_in types) (shapes_laid types laid) (map procedure_of procedures) (statements_of body)) }
+    requires measured { All (IsMeasuredHeading types.shapes) (map heading_of procedures) }
+    ensures means { IfOk result (λ m. module_of m ≡ spec.module_with declared.now.types declared.now.variables declared.now.procedures declared.now.locals name.now (shapes_in types) (shapes_laid types laid) (map (procedure_of types.shapes) procedures) (statements_of body)) }
     ensures body { IfOk result (λ m. m.body ≡ body) }
     ensures procedures { IfOk result (λ m. m.procedures ≡ procedures) }
     ensures measured { IfOk result (λ m. IsMeasured m) }
@@ -124,10 +142,11 @@ pub(crate) fn assembled(
         body,
     } = stated;
     let Some(body) = body else { unreachable!() };
-    let Some(procedures) = procedures(alloc, declared.procedures.as_slice(), bodies)? else {
+    let Some(types) = all_shapes(alloc, &declared.types)? else {
         unreachable!()
     };
-    let Some(types) = all_shapes(alloc, &declared.types)? else {
+    let of = declared.procedures.as_slice();
+    let Some(procedures) = procedures(alloc, &types, of, &declared.locals, bodies)? else {
         unreachable!()
     };
     let Some(laid) = lay(alloc, &types, declared.variables.as_slice())? else {

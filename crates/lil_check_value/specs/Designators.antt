@@ -19,15 +19,20 @@ use Rattle.lil_types.specs.Types.{Table, cardinal, char}
 use Rattle.lil_declared.specs.declared.declared.Mode.{Mode}
 use Rattle.lil_declared.specs.declared.declared.Mode.TheVariants as mode
 use Rattle.lil_forms.specs.Places as places
-use Rattle.lil_forms.specs.Places.{variable_at, held_at}
+use Rattle.lil_forms.specs.{Places.{variable_at, held_at}, Variables.{named_at, seen}}
+use Rattle.lil_resolved.specs.declared.resolved.RNamed.{RNamed}
 
 abbrev pub Reaches : Type 0
 Reaches = Option Reached × List Row
 
 -- ---- names
--- where a variable of the module lies; those of procedures have no code
+-- where a variable lies that is seen
+abbrev pub place_named : Env → Option RNamed → Option Located
+place_named e None = None
+place_named e (Some n) = variable_at n (seen e n)
+
 abbrev pub variable_place : Env → Variable → Option Located
-variable_place e v = if v.level == 1 then variable_at e.variables v.number else None
+variable_place e v = place_named e (named_at e v)
 
 abbrev pub kind_by : Mode → ℕ → Kind
 kind_by mode.Plain s = k.Of s

@@ -5,7 +5,7 @@ ghost use Rattle.lil_check_value.specs.Designators as spec;
 use crate::names::{Looked, is_built_name, is_hidden, is_nothing, look, looked_as};
 use lil_base::{FaultKind, Memory, Name, Place};
 use lil_declared::Mode;
-use lil_forms::{element_of, held_at, variable_at};
+use lil_forms::{element_of, held_at, named_at, seen, variable_at};
 use lil_kinds::{
     ArrayParts, FieldAt, Found, Located, Standing, array_parts, assignable, field, is_opaque,
     is_record, misses, target,
@@ -45,14 +45,13 @@ pub enum Reached {
     Other(Named),
 }
 
-/// Where a variable of the module lies; those of procedures have no code.
+/// Where a variable lies, None where it isn't seen.
 fn variable_place(alloc: Global, env: &Env, of: Variable) -> Option<Located>
     ensures { result ≡ spec.variable_place env.now of }
 {
-    if of.level == 1 {
-        variable_at(alloc, env.variables.as_slice(), of.number)
-    } else {
-        None
+    match named_at(env, of) {
+        None => None,
+        Some(named) => variable_at(alloc, named, seen(env, named)),
     }
 }
 

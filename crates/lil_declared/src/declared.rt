@@ -12,14 +12,12 @@ pub enum Mode {
     OpenPlace,
 }
 
-/// A variable: its type, or the type of its elements where it is an open array, and the procedure to which it belongs, if it is
-/// no variable of the module.
+/// A variable: its type, or the type of its elements where it is an open array.
 #[derive(Drop)]
 pub struct RVar {
     pub name: Name,
     pub sort: TypeId,
     pub mode: Mode,
-    pub owner: Option<usize>,
 }
 
 /// A procedure: its name; the number of its block, and those of the blocks around it, the outermost first; the procedures around

@@ -3,11 +3,11 @@ use Rattle.std.proofs.Common.{◌≡◌, ℕ, ◌+◌, ◌<◌, ◌≤◌, true,
 use Rattle.std.specs.Prelude.{slice_get}
 use Rattle.std.proofs.lemmas.List.{take_all, map-append}
 use Rattle.lil_base.specs.Words.{word_of}
-use Rattle.lil_resolved.specs.{declared.{resolved.{RPlace.{RPlace, out-RPlace}, RSelector.RSelector}, shapes.{RField.RField, RElements.RElements}}, Kinds.{Kind, least, numbers, Shape, words, is_there, part_at, offset, shape_by, shape_at, element_of}, Resolved.{Designator, Variable, Held, Field, Element, Follow, Expression, kind_of, shape_of}}
+use Rattle.lil_resolved.specs.{declared.{resolved.{RPlace.{RPlace, out-RPlace}, RSelector.RSelector}, shapes.{RField.RField, RElements.RElements}}, Kinds.{Kind, least, numbers, Shape, words, is_there, part_at, offset, shape_by, shape_at, element_of}, Resolved.{Named, variable_at, Designator, Variable, Held, Field, Element, Follow, Expression, kind_of, shape_of}}
 use Rattle.lil_resolved.specs.{Sound.IsSoundPlace, Views.{root_view, selected, selector_of, place_of, shapes_of, place_is}}
 use Rattle.lil_asm.specs.declared.instr.Instr.TheVariants.{Llw, Ixc, Nlt}
-use Rattle.lil_table.specs.Rows.{cut, IsAt, InstrsAt, Access, InData, OnTop, further, offset_in, address_code, load_code, test_code}
-use Rattle.lil_labels.specs.{Entries.small_at, declared.buffer.HeldRecord.HeldRecord, Tables.{Tables, target_by, variable_by, part_by, elements_by, held_by}, Drafts.{Draft, Final, Emits, Doing, DoingAll}, Emitting.{emits_none, emits_then, emits_as, emits_tied, take_next}}
+use Rattle.lil_table.specs.Rows.{cut, access_at, IsAt, InstrsAt, Access, InData, OnTop, further, offset_in, address_code, load_code, test_code}
+use Rattle.lil_labels.specs.{Entries.small_at, declared.buffer.HeldRecord.HeldRecord, Tables.{Tables, declared_at, target_by, variable_by, part_by, elements_by, held_by}, Drafts.{Draft, Final, Emits, Doing, DoingAll}, Emitting.{emits_none, emits_then, emits_as, emits_tied, take_next}}
 use Rattle.lil_expr.specs.{Accesses.words_in, Generating.{Value, ReachedAt, Found, Selecting}, Variables.{standing, kept, pointed}}
 use Rattle.lil_expr.proofs.Tables.{whole_there, array_there, row_is, part_within, PartIs, part_is, ElementsAre, elements_are}
 
@@ -16,20 +16,20 @@ there_is : (o : Option Shape) → is_there (shape_by o) ≡ true → (t : Shape)
 there_is None h = absurd (cc)
 there_is (Some t) h = (t, refl, h)
 
-pub variable_found : (v : ℕ) (f : RField) (d : Draft) → f ≡ variable_by (slice_get d.tables.variables v) → Emits d d (Found (Variable v) (InData f.offset) f.shape)
+pub variable_found : (v : Named) (f : RField) (d : Draft) → f ≡ variable_by (declared_at d.tables v) → Emits d d (Found (Variable v) (access_at v f.offset) f.shape)
 variable_found v f d is =
-    emits_as d d _ (Found (Variable v) (InData f.offset) f.shape)
+    emits_as d d _ (Found (Variable v) (access_at v f.offset) f.shape)
     (λ x t sound there.
-    let known = there_is (slice_get x.layout.scope.variables v) there in
+    let known = there_is (variable_at x.layout.scope v) there in
     let s = standing x v known.0 known.1 in
-    let same : f ≡ variable_by (Some s.variable) = is ∙ ap (λ (ts : Tables). variable_by (slice_get ts.variables v)) (sym t.1) ∙ ap variable_by s.there in
+    let same : f ≡ variable_by (Some s.variable) = is ∙ ap (λ (ts : Tables). variable_by (declared_at ts v)) (sym t.1) ∙ ap variable_by s.there in
     let lies : f.offset ≡ s.variable.offset = ap (λ (f : RField). f.offset) same in
     let number : f.shape ≡ s.variable.shape = ap (λ (f : RField). f.shape) same in
     record {
-      place = record { offset = s.variable.offset; shape = known.0; at = s.offset; typed = known.1; there = known.2; stays = t.0 };
-      access = ap InData lies ∙ ap (λ (o : Option ℕ). InData (offset_in o)) (sym s.offset);
+      place = record { offset = s.offset; shape = known.0; at = s.at; typed = known.1; there = known.2; stays = t.0 };
+      access = ap (access_at v) lies ∙ s.access ∙ ap (λ (o : Option ℕ). access_at v (offset_in o)) (sym s.at);
       shape = ap (shape_at (shapes_of x.tables.shapes)) number ∙ s.shape ∙ ap shape_by (sym known.1);
-      within = omega (arith, x.described.within v s.variable s.there, lies, ap words s.shape, ap (λ (o : Option Shape). words (shape_by o)) known.1);
+      within = omega (arith, s.within, ap (λ (n : ℕ). words_in (access_at v n)) lies, ap (λ (o : Option Shape). words (shape_by o)) known.1);
     })
     (emits_tied d d _ (emits_none d))
 
@@ -52,7 +52,7 @@ held_found w h c d is load =
     (emits_tied c d _ load)
 
 -- ---- fields
-words_further : (n : ℕ) (a : Access) → words_in (further n a) ≡ words_in a + n
+words_further : (n : ℕ) (a : Access) → words_in (further n a) ≤ words_in a + n
 words_further n a = grind arith
 
 pub field_selected : (s : RSelector) (i n : ℕ) (a b : Access) (f : RField) (c : Draft) → ((d : Designator) → selector_of s d ≡ Field d i) → f ≡ part_by (slice_get c.tables.shapes n) i → (words_in a + f.offset ≤ 65535 → b ≡ further f.offset a)

@@ -1,7 +1,7 @@
 //! How code has places, and what brings their addresses and their words.
 
 ghost use Rattle.std.specs.Prelude.{◌≡◌, ◌+◌, ◌≤◌, IfOk, OnOk};
-ghost use Rattle.lil_resolved.specs.Views.{root_view};
+ghost use Rattle.lil_resolved.specs.Views.{named_view, root_view};
 ghost use Rattle.lil_table.specs.Rows as rows;
 ghost use Rattle.lil_table.specs.Rows.{address_code, load_code};
 ghost use Rattle.lil_labels.specs.Drafts.{Doing, DoingAll, Emits};
@@ -10,13 +10,14 @@ ghost use Rattle.lil_expr.specs.{Accesses.{access_view, words_in}, Generating.Fo
 use lil_asm::Instr;
 use lil_base::Memory;
 use lil_labels::CodeBuffer;
-use lil_resolved::RRoot;
+use lil_resolved::{RNamed, RRoot};
 
-/// How code has a place: so many words into the data of the module, by its address on the expression stack, or so many
-/// words behind that address.
+/// How code has a place: so many words into the data of the module, or into the frame of the procedure so many levels out,
+/// of which the one at hand is 0; by its address on the expression stack, or so many words behind that address.
 #[derive(Clone, Copy)]
 pub enum Access {
     InData(u16),
+    InFrame(u8, u16),
     OnTop,
     Behind(u16),
 }
@@ -28,16 +29,26 @@ pub struct Reached {
     pub shape: usize,
 }
 
+/// How code has a variable that lies so many words into the data or the frame of its owner.
+pub fn variable_access(named: RNamed, offset: u16) -> Access
+    ensures { access_view result ≡ rows.access_at (named_view named) offset }
+{
+    match named {
+        RNamed::Module(_) => Access::InData(offset),
+        RNamed::Level(levels, _) => Access::InFrame(levels, offset),
+    }
+}
+
 /// Appends the code of a root, and says how code then has it. A variable takes none, and the record of a WITH the load of
 /// its address.
 pub(crate) fn emit_root(code: &mut CodeBuffer<'_>, root: RRoot) -> Result<Reached, Memory>
     ensures { IfOk result (λ at. Emits code.old code.new (Found (root_view root) (access_view at.access) at.shape)) }
 {
     match root {
-        RRoot::Variable(number) => {
-            let variable = code.variable(number);
+        RRoot::Variable(named) => {
+            let variable = code.variable(named);
             Ok(Reached {
-                access: Access::InData(variable.offset),
+                access: variable_access(named, variable.offset),
                 shape: variable.shape,
             })
         }
@@ -58,6 +69,7 @@ pub(crate) fn further(access: Access, words: u16) -> Access
 {
     match access {
         Access::InData(offset) => Access::InData(offset.saturating_add(words)),
+        Access::InFrame(levels, offset) => Access::InFrame(levels, offset.saturating_add(words)),
         Access::OnTop => Access::Behind(words),
         Access::Behind(offset) => Access::Behind(offset.saturating_add(words)),
     }
@@ -69,6 +81,8 @@ pub fn emit_address(code: &mut CodeBuffer<'_>, access: Access) -> Result<(), Mem
 {
     match access {
         Access::InData(offset) => code.put_all(&[Instr::Lag(offset)]),
+        Access::InFrame(0, offset) => code.put_all(&[Instr::Lal(offset)]),
+        Access::InFrame(levels, offset) => code.put_all(&[Instr::Lan(levels, offset)]),
         Access::OnTop => Ok(()),
         Access::Behind(offset) => code.put_all(&[Instr::Adf(offset)]),
     }
@@ -80,6 +94,8 @@ pub(crate) fn emit_load(code: &mut CodeBuffer<'_>, access: Access) -> Result<(),
 {
     match access {
         Access::InData(offset) => code.put(Instr::Lgw(offset)),
+        Access::InFrame(0, offset) => code.put(Instr::Llw(offset)),
+        Access::InFrame(levels, offset) => code.put(Instr::Lnw(levels, offset)),
         Access::OnTop => code.put(Instr::Ldi),
         Access::Behind(offset) => code.put(Instr::Ldf(offset)),
     }

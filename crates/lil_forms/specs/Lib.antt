@@ -6,3 +6,4 @@ pub mod Soundness
 pub mod StatementSound
 pub mod Statements
 pub mod Values
+pub mod Variables

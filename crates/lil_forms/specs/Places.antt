@@ -3,7 +3,7 @@ use Rattle.std.specs.Prelude.{ℕ, ◌-◌, List, [], ◌∷◌, ◌++◌, lengt
 use Rattle.lil_types.specs.Types.{Table}
 use Rattle.lil_declared.specs.declared.declared.RVar.{RVar}
 use Rattle.lil_kinds.specs.declared.found.{Found.Found, Located.Located}
-use Rattle.lil_resolved.specs.declared.resolved.{RExpr.RExpr, RKind.RKind, RPlace.{RPlace, roll-RPlace, out-RPlace}, RRoot.RRoot, RSelector.RSelector}
+use Rattle.lil_resolved.specs.declared.resolved.{RExpr.RExpr, RKind.RKind, RNamed.RNamed, RPlace.{RPlace, roll-RPlace, out-RPlace}, RRoot.RRoot, RSelector.RSelector}
 use Rattle.lil_resolved.specs.declared.resolved.RRoot.TheVariants as root
 use Rattle.lil_resolved.specs.declared.resolved.RSelector.TheVariants as part
 use Rattle.lil_shapes.specs.{declared.{composites.ArrayParts.ArrayParts, pointers.Target.Target}, Bases.{kind_at, field_at, array_at}, Pointers.target_at}
@@ -13,13 +13,10 @@ use Rattle.lil_forms.specs.{declared.places.Cell.Cell, Values.typed}
 abbrev pub at_root : RRoot → ℕ → Located
 at_root r s = record { place = roll-RPlace (record { root = r; selectors = [] }); sort = s }
 
--- a variable of the module, by its number
-abbrev pub variable_by : ℕ → Option RVar → Option Located
-variable_by n None = None
-variable_by n (Some v) = Some (at_root (root.Variable n) v.sort)
-
-abbrev pub variable_at : List RVar → ℕ → Option Located
-variable_at vs n = variable_by n (slice_get vs n)
+-- a variable, where it is seen
+abbrev pub variable_at : RNamed → Option RVar → Option Located
+variable_at n None = None
+variable_at n (Some v) = Some (at_root (root.Variable n) v.sort)
 
 -- the record of a WITH, by its number from the outermost, by the types of all around
 abbrev pub held_by : List ℕ → ℕ → Option ℕ → Option Located

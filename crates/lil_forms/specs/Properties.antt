@@ -1,12 +1,12 @@
 -- Properties of places and of expressions that come from their parts.
-use Rattle.std.proofs.Common.{◌≡◌, ℕ, ℤ, pos, true, List, [], ◌∷◌, ◌++◌, length, slice_get, Some}
+use Rattle.std.proofs.Common.{◌≡◌, ℕ, ℤ, true, List, [], ◌∷◌, ◌++◌, length, slice_get, Option, Some}
 use Rattle.std.specs.Prelude.{◌-◌}
 use Rattle.lil_base.specs.declared.operator.{OneOp.OneOp, TwoOp.TwoOp}
 use Rattle.lil_types.specs.Types.{Table}
 use Rattle.lil_declared.specs.declared.declared.RVar.{RVar}
 use Rattle.lil_kinds.specs.declared.found.Located.{Located}
 use Rattle.lil_resolved.specs.{Resolved.{kind_of, right_kind}, Kinds.Kind, Sound.{takes_one, takes_value, takes_function, is_element}, Views.{base_view, kind_view, function_of, expression_of}}
-use Rattle.lil_resolved.specs.declared.resolved.{RBase.RBase, RExpr.RExpr, RFunction.RFunction, RKind.RKind, RMember.RMember, ROperation.ROperation}
+use Rattle.lil_resolved.specs.declared.resolved.{RBase.RBase, RExpr.RExpr, RFunction.RFunction, RKind.RKind, RMember.RMember, RNamed.RNamed, ROperation.ROperation}
 use Rattle.lil_resolved.specs.declared.resolved.RExpr.TheVariants as e
 use Rattle.lil_resolved.specs.declared.resolved.RMember.TheVariants as m
 use Rattle.lil_resolved.specs.declared.resolved.RRoot.TheVariants as root
@@ -18,12 +18,12 @@ use Rattle.lil_forms.specs.{Places.{at_root, part_of}, Values.operation}
 abbrev pub value_kind : RExpr → Kind
 value_kind x = kind_of (expression_of x)
 
--- one of what designators reach, and one of expressions, over a table of types, the variables and the records of the WITHs around
-pub record Property (t : Table) (vs : List RVar) (around : List ℕ) : Type 1 where
+-- one of what designators reach, and one of expressions, over a table of types, the variables that are seen and the records of the WITHs around
+pub record Property (t : Table) (vs : RNamed → Option RVar) (around : List ℕ) : Type 1 where
   pub place : Located → Type 0
   pub value : RExpr → Type 0
   -- places
-  pub variable : (n : ℕ) (v : RVar) → slice_get vs n ≡ Some v → place (at_root (root.Variable n) v.sort)
+  pub variable : (n : RNamed) (v : RVar) → vs n ≡ Some v → place (at_root (root.Variable n) v.sort)
   pub held : (w s : ℕ) → slice_get around w ≡ Some s → place (at_root (root.Held (length around - 1 - w)) s)
   pub field : (p : Located) (i s : ℕ) → field_at t p.sort i ≡ Some s → place p → place (part_of p (part.Field i) s)
   pub index : (p : Located) (parts : ArrayParts) (j : RKind) (x : RExpr) → array_at t p.sort ≡ Some parts → kind_at t parts.index ≡ Some j → takes_value (kind_view j) (value_kind x) ≡ true → place p → value x
@@ -45,7 +45,7 @@ pub record Property (t : Table) (vs : List RVar) (around : List ℕ) : Type 1 wh
       → value (e.Set k ms) → value x → value y → value (e.Set k (ms ++ m.Span x y ∷ []))
 
 -- none at all
-abbrev pub nothing : (t : Table) (vs : List RVar) (around : List ℕ) → Property t vs around
+abbrev pub nothing : (t : Table) (vs : RNamed → Option RVar) (around : List ℕ) → Property t vs around
 nothing t vs around = record {
   place = λ p. Unit {0};
   value = λ x. Unit {0};

@@ -1,13 +1,16 @@
--- What lies in the variables of a module and in the records of the WITHs around, and what is sound there.
-use Rattle.std.proofs.Common.{◌≡◌, ℕ, suc, ◌+◌, ◌<◌, ◌≤◌, Bool, true, false, ◌&&◌, List, [], ◌∷◌, ◌++◌, length, map, slice_get, Option, None, Some, inl, inr, refl, sym, ap, subst, ◌∙◌, arith}
-use Rattle.std.specs.Prelude.{◌-◌, nat_le}
-use Rattle.std.proofs.lemmas.{Option.{none-some, slice_get_within}, List.length_push, Bool.Decides.nat_tests}
+-- What lies in the variables that are seen and in the records of the WITHs around, and what is sound there.
+use Rattle.std.proofs.Common.{◌≡◌, ℕ, suc, ◌+◌, ◌<◌, Bool, true, false, ◌&&◌, List, [], ◌∷◌, ◌++◌, length, map, slice_get, Option, None, Some, inl, inr, refl, sym, ap, subst, ◌∙◌, arith}
+use Rattle.std.specs.{Prelude.{◌-◌, option_and_then}, Option.option_map}
+use Rattle.std.proofs.lemmas.{Option.{none-some, slice_get_within, slice_get-map}, List.length_push}
 use Rattle.lil_types.specs.Types.{Table}
 use Rattle.lil_declared.specs.declared.declared.RVar.{RVar}
 use Rattle.lil_kinds.specs.declared.found.Located.{Located}
-use Rattle.lil_resolved.specs.{Resolved.{Designator, shape_of}, Kinds.{Shape, Scope, is_there, outermost, with_held}, Sound.{IsSoundPlace, IsSoundExpression}, Views.{expression_of, place_of}, declared.resolved.{RExpr.RExpr, RPlace.RPlace}}
-use Rattle.lil_shapes.specs.{Pointers.targets, Shaping.{all_some, lying, variables_by}, ListLaws.AllFine, ShapeSound.{at_end, within_is, HasShape}, TargetSound.all_known}
+use Rattle.lil_resolved.specs.{Resolved.{Named, OfModule, OfLevel, Designator, variable_at, shape_of}, Kinds.{Shape, Outline, Scope, procedure_by, locals_of, is_there, outermost, with_held}, Sound.{IsSoundPlace, IsSoundExpression}, Views.{named_view, expression_of, place_of}, declared.resolved.{RExpr.RExpr, RNamed.RNamed, RPlace.RPlace}}
+use Rattle.lil_resolved.specs.declared.resolved.RNamed.TheVariants as named
+use Rattle.lil_scope.specs.Names.{locals_by}
+use Rattle.lil_shapes.specs.{Pointers.targets, Shaping.{all_some, lying, variables_by}, ListLaws.{AllFine, some_at}, ShapeSound.{at_end, within_is, HasShape}, TargetSound.all_known}
 use Rattle.lil_shapes.specs.Shaping as shaping
+use Rattle.lil_forms.specs.Variables.{locals_out, seen_in}
 
 -- ---- tests of two conditions, and of an order
 pub both_left : (a b : Bool) → (a && b) ≡ true → a ≡ true
@@ -28,24 +31,52 @@ fine_more IsFine (y ∷ xs) x h j = (h.0, fine_more IsFine xs x h.1 j)
 abbrev pub AreHeld : List Shape → List ℕ → List Shape → Type 0
 AreHeld shapes around held = (w n : ℕ) → slice_get around w ≡ Some n → (x : Shape) × (slice_get shapes n ≡ Some x) × (slice_get held (length around - 1 - w) ≡ Some x) × (is_there x ≡ true)
 
--- what lies in the variables of a module, in the records of the WITHs around, and behind its pointers, is this, by the shapes of its types
-pub record Fits (t : Table) (vs : List RVar) (around : List ℕ) (ts : Scope) : Type 0 where
+-- what lies in the variables that are seen, in the records of the WITHs around, and behind its pointers, is this, by the shapes of its types
+pub record Fits (t : Table) (vs : RNamed → Option RVar) (around : List ℕ) (ts : Scope) : Type 0 where
   pub shapes : List Shape
   pub types : shaping.shapes t ≡ Some shapes
   pub targets : ts.targets ≡ targets t shapes
-  pub variables : all_some (map (lying shapes) vs) ≡ Some ts.variables
+  pub variables : (n : RNamed) (v : RVar) → vs n ≡ Some v → (x : Shape) × (lying shapes v ≡ Some x) × (variable_at ts (named_view n) ≡ Some x)
   pub held : AreHeld shapes around ts.held
 
--- outside of all WITHs it is what lies in the variables, whatever procedures there are
-pub outside : (t : Table) (vs : List RVar) (shapes lies : List Shape) (procedures : List (List ℕ)) (chain : List ℕ) → shaping.shapes t ≡ Some shapes → variables_by (Some shapes) vs ≡ Some lies
-    → Fits t vs [] (outermost (targets t shapes) lies procedures chain)
-outside t vs shapes lies procedures chain types variables = record {
-  shapes = shapes;
-  types = types;
-  targets = refl;
-  variables = within_is (all_some (map (lying shapes) vs)) lies variables;
-  held = λ w n is. absurd (none-some n is);
-}
+-- what lies in the variables of procedures is told of these, by their numbers
+abbrev pub AreOutlined : List Shape → List (List RVar) → List Outline → Type 0
+AreOutlined shapes ls outlines = (p : ℕ) (vs : List RVar) → slice_get ls p ≡ Some vs → (o : Outline) × (slice_get outlines p ≡ Some o) × (all_some (map (lying shapes) vs) ≡ Some o.locals)
+
+-- outside of all WITHs it is what lies in the variables of the module and of the procedures at hand, whatever other procedures there are
+module _ (t : Table) (vs : List RVar) (ls : List (List RVar)) (shapes lies : List Shape) (outlines : List Outline) (chain : List ℕ) (types : shaping.shapes t ≡ Some shapes) (variables : variables_by (Some shapes) vs ≡ Some lies)
+    (outlined : AreOutlined shapes ls outlines) where
+  abbrev around_none : Scope
+  around_none = outermost (targets t shapes) lies outlines (map (λ n. n + 1) chain)
+
+  abbrev IsShown : RNamed → RVar → Type 0
+  IsShown n v = (x : Shape) × (lying shapes v ≡ Some x) × (variable_at around_none (named_view n) ≡ Some x)
+
+  local_shown : (l x p : ℕ) (v : RVar) (o : Option (List RVar)) → slice_get chain l ≡ Some p → slice_get ls p ≡ o → slice_get (locals_by o) x ≡ Some v → IsShown (named.Level l x) v
+  local_shown l x p v None at there is = absurd (none-some v is)
+  local_shown l x p v (Some ws) at there is =
+      let o = outlined p ws there in
+      let one = some_at (lying shapes) ws o.0.locals x v o.2 is in
+      let number : p + 1 ≡ suc p = omega arith in
+      let up : slice_get (map (λ n. n + 1) chain) l ≡ Some (suc p) = slice_get-map (λ n. n + 1) chain l ∙ ap (option_map (λ n. n + 1)) at ∙ ap Some number in
+      (one.0, one.1, (λ i. slice_get (locals_of (option_and_then (procedure_by outlines) (up i))) x) ∙ ap (λ o. slice_get (locals_of o) x) o.1 ∙ one.2)
+
+  level_shown : (l x : ℕ) (v : RVar) (o : Option ℕ) → slice_get chain l ≡ o → slice_get (locals_out ls o) x ≡ Some v → IsShown (named.Level l x) v
+  level_shown l x v None at is = absurd (none-some v is)
+  level_shown l x v (Some p) at is = local_shown l x p v (slice_get ls p) at refl is
+
+  shown : (n : RNamed) (v : RVar) → seen_in vs ls chain n ≡ Some v → IsShown n v
+  shown (named.Module x) v is = some_at (lying shapes) vs lies x v (within_is (all_some (map (lying shapes) vs)) lies variables) is
+  shown (named.Level l x) v is = level_shown l x v (slice_get chain l) refl is
+
+  pub outside : Fits t (seen_in vs ls chain) [] around_none
+  outside = record {
+    shapes = shapes;
+    types = types;
+    targets = refl;
+    variables = shown;
+    held = λ w n is. absurd (none-some n is);
+  }
 
 -- a place lies in what is reached, and has the shape of its type
 pub record IsPlaced (shapes : List Shape) (ts : Scope) (p : Located) : Type 0 where
@@ -60,7 +91,7 @@ placed_as shapes ts p s d is at good = record { shape = at ∙ ap (λ d. Some (s
 abbrev pub Runs : Scope → RExpr → Type 0
 Runs ts x = IsSoundExpression ts (expression_of x)
 
-pub has_shape : {t : Table} {vs : List RVar} {around : List ℕ} {ts : Scope} (fits : Fits t vs around ts) (n : ℕ) (x : Shape) → slice_get fits.shapes n ≡ Some x → HasShape t fits.shapes n x
+pub has_shape : {t : Table} {vs : RNamed → Option RVar} {around : List ℕ} {ts : Scope} (fits : Fits t vs around ts) (n : ℕ) (x : Shape) → slice_get fits.shapes n ≡ Some x → HasShape t fits.shapes n x
 has_shape {t} fits n x is = (all_known t fits.shapes fits.types).1 n x is
 
 -- ---- inside of a WITH
@@ -78,13 +109,17 @@ more_held shapes around held n x h at there w j is = elim (at_end around n j w i
   | inr e ↦ (x, ap (slice_get shapes) (sym e.1) ∙ at, ap (λ k. slice_get (x ∷ held) (k - 1 - w)) (length_push around n) ∙ ap (slice_get (x ∷ held)) (innermost (length around) w e.0), there)
 ]
 
+same_variables : (ts : Scope) (x : Shape) (n : Named) → variable_at (with_held ts x) n ≡ variable_at ts n
+same_variables ts x (OfModule i) = refl
+same_variables ts x (OfLevel l i) = refl
+
 -- what lies somewhere is the innermost record
-pub deeper : {t : Table} {vs : List RVar} {around : List ℕ} {ts : Scope} (fits : Fits t vs around ts) (p : Located) → IsPlaced fits.shapes ts p → is_there (shape_of ts (place_of p.place)) ≡ true
+pub deeper : {t : Table} {vs : RNamed → Option RVar} {around : List ℕ} {ts : Scope} (fits : Fits t vs around ts) (p : Located) → IsPlaced fits.shapes ts p → is_there (shape_of ts (place_of p.place)) ≡ true
     → Fits t vs (around ++ p.sort ∷ []) (with_held ts (shape_of ts (place_of p.place)))
 deeper {around} {ts} fits p h there = record {
   shapes = fits.shapes;
   types = fits.types;
   targets = fits.targets;
-  variables = fits.variables;
+  variables = λ n v is. let one = fits.variables n v is in (one.0, one.1, same_variables ts (shape_of ts (place_of p.place)) (named_view n) ∙ one.2);
   held = more_held fits.shapes around ts.held p.sort (shape_of ts (place_of p.place)) fits.held h.shape there;
 }

@@ -1,5 +1,5 @@
--- Soundness, in what lies in the variables of a module and in the records of the WITHs around.
-use Rattle.std.proofs.Common.{◌≡◌, ℕ, ◌≤◌, ℤ, pos, true, List, [], ◌∷◌, ◌++◌, map, length, slice_get, Option, None, Some, IfSome, refl, sym, ap, ◌∙◌, subst}
+-- Soundness, in what lies in the variables that are seen and in the records of the WITHs around.
+use Rattle.std.proofs.Common.{◌≡◌, ℕ, ◌≤◌, ℤ, true, List, [], ◌∷◌, ◌++◌, map, length, slice_get, Option, None, Some, IfSome, refl, sym, ap, ◌∙◌, subst}
 use Rattle.std.specs.Prelude.{◌-◌, ◌==◌}
 use Rattle.std.specs.Option.{option_map}
 use Rattle.std.proofs.lemmas.Option.{none-some, cond_some}
@@ -7,9 +7,9 @@ use Rattle.lil_base.specs.declared.operator.{OneOp.OneOp, TwoOp.{TwoOp, TheVaria
 use Rattle.lil_types.specs.Types.{Table, char, base}
 use Rattle.lil_declared.specs.declared.declared.RVar.{RVar}
 use Rattle.lil_kinds.specs.declared.found.Located.{Located}
-use Rattle.lil_resolved.specs.{Bases.own_base, Chains.set_kind, Kinds.{Kind, OfCharacter, OfSet, is_base, Shape, Scope, Word, Row, element_of as elements, count_of, is_there, shape_by, shape_at}, Sizes.place_depth, Resolved.{shape_of, Expression, Two, kind_of, right_kind}}
-use Rattle.lil_resolved.specs.Views.{field_is, index_is, follow_is, one_is, apply_is, chain_is, set_is, single_is, span_is, constant_is, taken_is, kind_view, base_view, expression_of, place_of, two_of, chained, with_members, empty_set, function_of, member_of, operation_of}
-use Rattle.lil_resolved.specs.declared.resolved.{RBase.RBase, RExpr.RExpr, RFunction.RFunction, RKind.RKind, RMember.RMember, ROperation.ROperation}
+use Rattle.lil_resolved.specs.{Bases.own_base, Chains.set_kind, Kinds.{Kind, OfCharacter, OfSet, is_base, Shape, Scope, Word, Row, element_of as elements, count_of, is_there, shape_by, shape_at}, Sizes.place_depth, Resolved.{variable_at, shape_of, Expression, Two, kind_of, right_kind}}
+use Rattle.lil_resolved.specs.Views.{field_is, index_is, follow_is, one_is, apply_is, chain_is, set_is, single_is, span_is, constant_is, taken_is, kind_view, named_view, base_view, expression_of, place_of, two_of, chained, with_members, empty_set, function_of, member_of, operation_of}
+use Rattle.lil_resolved.specs.declared.resolved.{RBase.RBase, RExpr.RExpr, RFunction.RFunction, RKind.RKind, RMember.RMember, RNamed.RNamed, ROperation.ROperation}
 use Rattle.lil_resolved.specs.Resolved as resolved
 use Rattle.lil_resolved.specs.Sound as sound
 use Rattle.lil_resolved.specs.Sound.{IsScalar, IsSoundTarget, IsSoundExpression}
@@ -18,7 +18,7 @@ use Rattle.lil_resolved.specs.declared.resolved.RExpr.TheVariants as e
 use Rattle.lil_resolved.specs.declared.resolved.RMember.TheVariants as m
 use Rattle.lil_resolved.specs.declared.resolved.RRoot.TheVariants as root
 use Rattle.lil_resolved.specs.declared.resolved.RSelector.TheVariants as part
-use Rattle.lil_shapes.specs.{declared.{composites.ArrayParts.ArrayParts, pointers.Target.Target}, Bases.{plain, kind_at, numbers_of, characters_in, characters_at, field_at, array_at, composite_at}, Pointers.target_at, Shaping.{there, lying}, BaseLaws.{if_some, same_sort, base_words, kind_base, literal_sound}, ListLaws.some_at}
+use Rattle.lil_shapes.specs.{declared.{composites.ArrayParts.ArrayParts, pointers.Target.Target}, Bases.{plain, kind_at, numbers_of, characters_in, characters_at, field_at, array_at, composite_at}, Pointers.target_at, Shaping.{there}, BaseLaws.{if_some, same_sort, base_words, kind_base, literal_sound}}
 use Rattle.lil_shapes.specs.{ShapeSound.{mapped, field_shaped, element_shaped, composite_shaped, word_shaped}, TargetSound.{PointsTo, all_known, target_shaped}, Operators.{takes_two, is_a_truth, has_number}}
 use Rattle.lil_forms.specs.{Places.{at_root, part_of}, Values.operation, Parts.{placed_is, further_is, chained_more, members_more}, Scopes.{Fits, IsPlaced, placed_as, Runs, has_shape}, Properties.{Property, value_kind}}
 
@@ -31,20 +31,20 @@ there_is : (o : Option Shape) (s : Shape) → there o ≡ Some s → o ≡ Some 
 there_is None s h = h
 there_is (Some x) s h = ap Some (cond_some (is_there x) x s h).1
 
-module _ {t : Table} {vs : List RVar} {around : List ℕ} {ts : Scope} (fits : Fits t vs around ts) where
+module _ {t : Table} {vs : RNamed → Option RVar} {around : List ℕ} {ts : Scope} (fits : Fits t vs around ts) where
   abbrev pub Lies : Located → Type 0
   Lies p = IsPlaced fits.shapes ts p
 
   -- ---- variables, and the records of WITHs
-  pub variable_lies : (n : ℕ) (v : RVar) → slice_get vs n ≡ Some v → (x : Shape) × (slice_get fits.shapes v.sort ≡ Some x) × (slice_get ts.variables n ≡ Some x)
+  pub variable_lies : (n : RNamed) (v : RVar) → vs n ≡ Some v → (x : Shape) × (slice_get fits.shapes v.sort ≡ Some x) × (variable_at ts (named_view n) ≡ Some x)
   variable_lies n v is =
-      let one = some_at (lying fits.shapes) vs ts.variables n v fits.variables is in
+      let one = fits.variables n v is in
       (one.0, there_is (slice_get fits.shapes v.sort) one.0 one.1, one.2)
 
-  pub variable_sound : (n : ℕ) (v : RVar) → slice_get vs n ≡ Some v → Lies (at_root (root.Variable n) v.sort)
+  pub variable_sound : (n : RNamed) (v : RVar) → vs n ≡ Some v → Lies (at_root (root.Variable n) v.sort)
   variable_sound n v is =
       let at = variable_lies n v is in
-      placed_as fits.shapes ts _ v.sort (resolved.Variable n) (placed_is (root.Variable n) []) (at.1 ∙ ap (λ o. Some (shape_by o)) (sym at.2)) tt
+      placed_as fits.shapes ts _ v.sort (resolved.Variable (named_view n)) (placed_is (root.Variable n) []) (at.1 ∙ ap (λ o. Some (shape_by o)) (sym at.2)) tt
 
   pub held_sound : (w s : ℕ) → slice_get around w ≡ Some s → Lies (at_root (root.Held (length around - 1 - w)) s)
   held_sound w s is =
@@ -144,7 +144,7 @@ module _ (ts : Scope) where
       → Runs ts (e.Set k ms) → Runs ts x → Runs ts y → Runs ts (e.Set k (ms ++ m.Span x y ∷ []))
   span_sound k ms x y of takes last h i j = member_sound k ms (m.Span x y) _ (span_is x y) (λ is good. (is, good, of, takes, last, i, j)) h
 
-abbrev pub soundness : {t : Table} {vs : List RVar} {around : List ℕ} {ts : Scope} → Fits t vs around ts → Property t vs around
+abbrev pub soundness : {t : Table} {vs : RNamed → Option RVar} {around : List ℕ} {ts : Scope} → Fits t vs around ts → Property t vs around
 soundness {ts} fits = record {
   place = Lies fits;
   value = Runs ts;

@@ -7,6 +7,7 @@ mod places;
 mod sets;
 mod statements;
 mod values;
+mod variables;
 
 pub use arguments::{Handed, called, handed_over, located_in, nothing_handed};
 pub use operators::{
@@ -17,3 +18,4 @@ pub use places::{Cell, cell_at, element_of, field_of, held_at, target_of, variab
 pub use sets::{allocated, turned};
 pub use statements::{assigned, changed, changed_by_one, created, disposed, note_characters};
 pub use values::{typed, typed_by};
+pub use variables::{named_at, seen};

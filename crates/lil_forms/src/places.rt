@@ -1,11 +1,12 @@
 ghost use Rattle.std.specs.Prelude.{◌≡◌, ◌-◌, IfOk, Some, None};
+ghost use Rattle.std.specs.Option.{option_copied};
 ghost use Rattle.lil_forms.specs.Places as spec;
 
 use crate::values::typed;
 use lil_base::{Items, Memory, beside};
 use lil_declared::RVar;
 use lil_kinds::{Found, Located};
-use lil_resolved::{RExpr, RKind, RPlace, RRoot, RSelector};
+use lil_resolved::{RExpr, RKind, RNamed, RPlace, RRoot, RSelector};
 use lil_shapes::{ArrayParts, array_at, field_at, kind_at, target_at};
 use lil_types::{TypeId, TypeTable};
 use std::alloc::Global;
@@ -30,13 +31,13 @@ fn at_root(alloc: Global, root: RRoot, sort: TypeId) -> Located
     }
 }
 
-/// A variable of the module by its number, None where there is none.
-pub fn variable_at(alloc: Global, variables: &[RVar], number: usize) -> Option<Located>
-    ensures { result ≡ spec.variable_at variables.now number }
+/// A variable, by what is known of it, None where it isn't seen.
+pub fn variable_at(alloc: Global, named: RNamed, of: Option<&RVar>) -> Option<Located>
+    ensures { result ≡ spec.variable_at named (option_copied of.entry) }
 {
-    match variables.get(number) {
+    match of {
         None => None,
-        Some(variable) => Some(at_root(alloc, RRoot::Variable(number), variable.sort)),
+        Some(variable) => Some(at_root(alloc, RRoot::Variable(named), variable.sort)),
     }
 }
 

@@ -83,6 +83,7 @@ start = record {
   texts = [];
   variables = [];
   procedures = [];
+  locals = [];
   waits = [];
   coming = [];
   withs = [];

@@ -5,7 +5,7 @@ ghost use Rattle.lil_interfaces.specs.Standard as spec;
 use crate::surface::literal;
 use lil_base::{Items, Memory, Place};
 use lil_declared::Standard;
-use lil_scope::{Blocks, Coming, Entry, Env, Kind, Scopes, Thing, Waits, Withs};
+use lil_scope::{Blocks, Coming, Entry, Env, Kind, Locals, Scopes, Thing, Waits, Withs};
 use lil_types::{BITSET, BOOLEAN, CARDINAL, CHAR, INTEGER, PROC, TypeTable};
 use std::alloc::Global;
 
@@ -120,6 +120,7 @@ pub fn start(alloc: Global) -> Result<Env, Memory>
         texts: Items::new(alloc),
         variables: Items::new(alloc),
         procedures: Items::new(alloc),
+        locals: Locals::new(alloc),
         waits: Waits::new(alloc),
         coming: Coming::new(alloc),
         withs: Withs::new(alloc),

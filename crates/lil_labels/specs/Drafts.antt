@@ -1,7 +1,7 @@
 -- Code that is being written with labels. What is said of it holds in each final code that begins with it, whatever words its labels have.
 use Rattle.std.specs.Prelude.{◌≡◌, ◌≢◌, ℕ, ◌+◌, ◌*◌, ◌/◌, ◌%◌, ◌≤◌, true, List, [], ◌∷◌, ◌++◌, drop, length, Option, Some, None, slice_get, slice_set}
 use Rattle.lil_asm.specs.{declared.instr.Instr.{Instr, TheVariants.{Jmp, Jpf, Jan, Jor, Cas, Fri, Frn}}, Bytes.{Entry, Sayable}}
-use Rattle.lil_resolved.specs.{declared.{resolved.RDeclared.RDeclared, shapes.RShape.RShape}, Sound.is_text}
+use Rattle.lil_resolved.specs.{declared.{resolved.{RDeclared.RDeclared, RHeading.RHeading}, shapes.RShape.RShape}, Sound.is_text}
 use Rattle.lil_table.specs.Rows.{Layout, Span, IsAt, InstrsAt, HasText}
 use Rattle.lil_labels.specs.{declared.buffer.{HeldRecord.HeldRecord, Jump.Jump, Aim.Aim}, Tables.{Tables, Describe}}
 use Rattle.lil_labels.specs.declared.buffer.Aim.TheVariants as aim
@@ -14,8 +14,12 @@ pub record Draft : Type 0 where
   pub places : List (Option ℕ)
   pub jumps : List Jump
 
-abbrev pub empty : List RShape → List ℕ → List RDeclared → ℕ → Draft
-empty shapes targets variables words = record { tables = record { shapes = shapes; targets = targets; variables = variables; words = words; held = [] }; strings = []; bytes = []; places = []; jumps = [] }
+abbrev pub empty : List RShape → List ℕ → List RDeclared → ℕ → List RHeading → Draft
+empty shapes targets variables words procedures = record { tables = record { shapes = shapes; targets = targets; variables = variables; words = words; procedures = procedures; own = None; held = [] }; strings = []; bytes = []; places = []; jumps = [] }
+
+-- in a procedure, by its number from 0 on, or in the body
+abbrev pub in_procedure : Option ℕ → Draft → Draft
+in_procedure own d = record d { tables = record d.tables { own = own } }
 
 -- inside of a WITH too
 abbrev pub inside : HeldRecord → Draft → Draft
@@ -52,7 +56,7 @@ abbrev pub IsOpen : Draft → ℕ → Type 0
 IsOpen d l = slice_get d.places l ≡ Some None
 
 -- A final code from a place on, the tables that describe its layout, and the word that each label has there. The offsets of its data are
--- words. Numbers up to the words of its frame and its bytes are written cut to 16 bits, where they aren't lower.
+-- words. Numbers up to that of its bytes are written cut to 16 bits, where they aren't lower.
 pub record Final : Type 0 where
   pub tables : Tables
   pub layout : Layout
@@ -61,7 +65,7 @@ pub record Final : Type 0 where
   pub word : ℕ → ℕ
   pub from : ℕ
   pub code : List ℕ
-  pub cuts : (n : ℕ) → n ≤ layout.frame + length code → layout.target n ≡ n % 65536
+  pub cuts : (n : ℕ) → n ≤ length code → layout.target n ≡ n % 65536
 
 -- code has these bytes from a place on
 abbrev pub HasFrom : ℕ → List ℕ → List ℕ → Type 0

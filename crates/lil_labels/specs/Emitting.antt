@@ -127,6 +127,9 @@ inside_of h x = record {
     offsets = x.described.offsets;
     within = x.described.within;
     words = x.described.words;
+    procedures = x.described.procedures;
+    chain = x.described.chain;
+    each = x.described.each;
     held = ap (λ (ws : List ℕ). h.word ∷ ws) x.described.held;
     held_shapes = ap (λ (ts : List Shape). shape_held x.tables.shapes h ∷ ts) x.described.held_shapes;
   };

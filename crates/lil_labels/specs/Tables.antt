@@ -1,18 +1,46 @@
 -- The tables of a module: where its variables lie, what its shapes have, and to what its pointers point; and the records of the WITHs around.
-use Rattle.std.specs.Prelude.{◌≡◌, ℕ, ◌+◌, ◌-◌, ◌*◌, ◌≤◌, min, List, [], length, Option, Some, None, map, slice_get, nat_lt, if◌then◌else◌}
-use Rattle.lil_resolved.specs.{declared.{resolved.RDeclared.RDeclared, shapes.{RField.RField, RElements.RElements, RShape.RShape}}, Kinds.{Shape, words, shape_at}, Views.{AreMeasured, offset_of, shape_declared, shapes_of}}
+use Rattle.std.specs.{Prelude.{◌≡◌, ℕ, suc, ◌+◌, ◌-◌, ◌*◌, ◌≤◌, min, List, [], ◌∷◌, length, Option, Some, None, option_and_then, map, slice_get, nat_lt, if◌then◌else◌}, List.All}
+use Rattle.lil_resolved.specs.{declared.{resolved.{RDeclared.RDeclared, RHeading.RHeading}, shapes.{RField.RField, RElements.RElements, RShape.RShape}}, Kinds.{Outline, Shape, words, shape_at, procedure_by}, Resolved.{Named, OfModule, OfLevel}, Views.{AreMeasured, IsMeasuredHeading, offset_of, shape_declared, locals_of, shapes_of}}
 use Rattle.lil_resolved.specs.declared.shapes.RShape.TheVariants as r
 use Rattle.lil_table.specs.Rows.{Layout}
 use Rattle.lil_labels.specs.declared.buffer.HeldRecord.{HeldRecord}
 
--- the shapes, the numbers of those to which pointer types point, the variables and how many words they take, and the records of the WITHs
--- around, the innermost first
+-- the shapes, the numbers of those to which pointer types point, the variables and how many words they take, the procedures, the number of the
+-- one at hand from 0 on, and the records of the WITHs around, the innermost first
 pub record Tables : Type 0 where
   pub shapes : List RShape
   pub targets : List ℕ
   pub variables : List RDeclared
   pub words : ℕ
+  pub procedures : List RHeading
+  pub own : Option ℕ
   pub held : List HeldRecord
+
+-- the procedure at hand and those around it by their numbers, the innermost first
+abbrev pub chain_from : ℕ → Option RHeading → List ℕ
+chain_from i None = []
+chain_from i (Some p) = suc i ∷ p.around
+
+abbrev pub chain_of : List RHeading → Option ℕ → List ℕ
+chain_of ps None = []
+chain_of ps (Some i) = chain_from i (slice_get ps i)
+
+-- the heading of the procedure so many levels out of the one at hand
+abbrev pub heading_out : List RHeading → Option ℕ → ℕ → Option RHeading
+heading_out ps own n = option_and_then (procedure_by ps) (slice_get (chain_of ps own) n)
+
+abbrev pub locals_in : Option RHeading → List RDeclared
+locals_in None = []
+locals_in (Some p) = p.locals
+
+-- a variable, if there is one
+abbrev pub declared_at : Tables → Named → Option RDeclared
+declared_at t (OfModule x) = slice_get t.variables x
+declared_at t (OfLevel n x) = slice_get (locals_in (heading_out t.procedures t.own n)) x
+
+-- what names elsewhere need of a procedure
+abbrev pub outline_with : List RShape → RHeading → Outline
+outline_with ts h = record { around = h.around; locals = locals_of ts h }
 
 -- where a variable lies, and the number of its shape; zeros where there is none
 abbrev pub variable_by : Option RDeclared → RField
@@ -89,8 +117,8 @@ word_held h = h.word
 abbrev pub shape_held : List RShape → HeldRecord → Shape
 shape_held ts h = shape_at (shapes_of ts) h.shape
 
--- The shapes are measured, what pointers point to, the variables and the records of the WITHs around are those of a layout, and each variable
--- lies in 32,000 words.
+-- The shapes are measured, what pointers point to, the variables, the procedures and the records of the WITHs around are those of a layout, and
+-- each variable lies in 32,000 words.
 pub record Describe (t : Tables) (l : Layout) : Type 0 where
   pub measured : AreMeasured [] t.shapes
   pub targets : l.scope.targets ≡ map (shape_at (shapes_of t.shapes)) t.targets
@@ -98,5 +126,8 @@ pub record Describe (t : Tables) (l : Layout) : Type 0 where
   pub offsets : l.offsets ≡ map offset_of t.variables
   pub within : (x : ℕ) (v : RDeclared) → slice_get t.variables x ≡ Some v → v.offset + words (shape_declared t.shapes v) ≤ 32000
   pub words : l.words ≡ t.words
+  pub procedures : l.scope.procedures ≡ map (outline_with t.shapes) t.procedures
+  pub chain : l.scope.chain ≡ chain_of t.procedures t.own
+  pub each : All (IsMeasuredHeading t.shapes) t.procedures
   pub held : l.held ≡ map word_held t.held
   pub held_shapes : l.scope.held ≡ map (shape_held t.shapes) t.held

@@ -1,14 +1,14 @@
 //! Code whose jumps name labels. The labels become places when the code is settled.
 
-ghost use Rattle.std.specs.Prelude.{◌≡◌, ℕ, ◌≤◌, [], length, slice_get, Some, IfOk, OnOk};
+ghost use Rattle.std.specs.Prelude.{◌≡◌, ℕ, ◌≤◌, [], length, slice_get, option_and_then, map, Some, IfOk, OnOk};
 ghost use Rattle.lil_asm.specs.Bytes.{Sayable};
-ghost use Rattle.lil_resolved.specs.{Kinds.{words, shape_at}, Sizes.words_of, Views.{AreMeasured, shapes_of}};
+ghost use Rattle.lil_resolved.specs.{Kinds.{words, shape_at}, Sizes.words_of, Views.{AreMeasured, named_view, heading_of, shapes_of}};
 ghost use Rattle.lil_labels.specs.Tables as tables;
-ghost use Rattle.lil_labels.specs.{Tables.{target_by, variable_by, part_in, part_by, elements_in, elements_by, last_in, last_by, below, plain_words_by, held_by}, Drafts.{empty, inside, outside, aimed, code_of, settled_word, Adds, Emits, Nothing, Saying, Doing, AreSayable, DoingAll, Choosing, Marking, Entering, IsOpen, Makes, Places, Ends, Notes}};
+ghost use Rattle.lil_labels.specs.{Tables.{declared_at, heading_out, target_by, variable_by, part_in, part_by, elements_in, elements_by, last_in, last_by, below, plain_words_by, held_by}, Drafts.{empty, in_procedure, inside, outside, aimed, code_of, settled_word, Adds, Emits, Nothing, Saying, Doing, AreSayable, DoingAll, Choosing, Marking, Entering, IsOpen, Makes, Places, Ends, Notes}};
 
 use lil_asm::{Instr, encode, encode_entry};
 use lil_base::{Bytes, Memory};
-use lil_resolved::{RDeclared, RElements, RField, RShape};
+use lil_resolved::{RDeclared, RElements, RField, RNamed, RProcedure, RShape};
 use std::alloc::Global;
 use std::collections::VecDeque;
 use std::marker::Model;
@@ -120,6 +120,39 @@ fn last_at(shapes: &[RShape], number: usize) -> Option<RField>
     }
 }
 
+/// Where a variable lies, and the number of its shape; zeros where there is none.
+fn variable_in(variables: &[RDeclared], number: usize) -> RField
+    ensures { result ≡ variable_by (slice_get variables.now number) }
+{
+    match variables.get(number) {
+        Some(variable) => RField {
+            offset: variable.offset,
+            shape: variable.shape,
+        },
+        None => NOWHERE,
+    }
+}
+
+/// The procedure so many levels out of one, by their numbers from 0 on.
+fn procedure_out(procedures: &[RProcedure], own: usize, levels: u8) -> Option<usize>
+    ensures { option_and_then (slice_get (map heading_of procedures.now)) result ≡ heading_out (map heading_of procedures.now) (Some own) levels }
+{
+    if levels == 0 {
+        return Some(own);
+    }
+    let around = &procedures.get(own)?.heading.around;
+    let number = *around.get(usize::from(levels - 1))?;
+    usize::from(number).checked_sub(1)
+}
+
+/// Where a variable of the procedure so many levels out lies.
+fn local(procedures: &[RProcedure], own: Option<usize>, levels: u8, number: usize) -> Option<RField>
+    ensures { tables.field_by result ≡ variable_by (slice_get (tables.locals_in (heading_out (map heading_of procedures.now) own levels)) number) }
+{
+    let out = procedure_out(procedures, own?, levels)?;
+    Some(variable_in(procedures.get(out)?.heading.locals.as_slice(), number))
+}
+
 /// The words of a shape without fields, up to 65535.
 fn plain_words(shape: &RShape) -> u16
     ensures { result ≡ tables.plain_words shape.now }
@@ -172,8 +205,9 @@ fn text_words(alloc: Global, text: &[u8]) -> Result<Vec<u16>, Memory>
 }
 
 /// Code that is being written for a module: the module's shapes, by the numbers of its pointer types those of the shapes to
-/// which they point, its variables, how many words these take, the words of the strings so far, the records of the WITHs
-/// around, the innermost first, the bytes so far, the place of each label that has one, and the jumps.
+/// which they point, its variables, how many words these take, its procedures and the number from 0 on of the one at hand,
+/// the words of the strings so far, the records of the WITHs around, the innermost first, the bytes so far, the place of
+/// each label that has one, and the jumps.
 #[derive(Drop)]
 pub struct CodeBuffer<'m> {
     alloc: Global,
@@ -181,6 +215,8 @@ pub struct CodeBuffer<'m> {
     targets: &'m [usize],
     variables: &'m [RDeclared],
     words: u16,
+    procedures: &'m [RProcedure],
+    own: Option<usize>,
     strings: Vec<u16>,
     held: VecDeque<HeldRecord>,
     bytes: Bytes,
@@ -189,26 +225,28 @@ pub struct CodeBuffer<'m> {
 }
 
 impl<'m> Model for CodeBuffer<'m> {
-    ghost use Rattle.std.specs.Prelude.{length};
+    ghost use Rattle.std.specs.Prelude.{length, map};
+    ghost use Rattle.lil_resolved.specs.Views.{heading_of};
     ghost use Rattle.lil_labels.specs.Drafts.{Draft, IsSound};
 
     ghost Value = { Draft };
 
-    ghost view = { λ c. record { tables = record { shapes = c.shapes.now; targets = c.targets.now; variables = c.variables.now; words = c.words; held = c.held.items }; strings = c.strings.items; bytes = c.bytes; places = c.places.items; jumps = c.jumps.items } };
+    ghost view = { λ c. record { tables = record { shapes = c.shapes.now; targets = c.targets.now; variables = c.variables.now; words = c.words; procedures = map heading_of c.procedures.now; own = c.own; held = c.held.items }; strings = c.strings.items; bytes = c.bytes; places = c.places.items; jumps = c.jumps.items } };
 
     ghost invariant = { λ c. IsSound (length c.bytes) c.places.items c.jumps.items };
 }
 
 impl<'m> CodeBuffer<'m> {
-    /// No code of a module with these shapes, targets of pointers, and variables, which take so many words.
+    /// No code of a module with these shapes, targets of pointers, variables, which take so many words, and procedures.
     pub fn new(
         alloc: Global,
         shapes: &'m [RShape],
         targets: &'m [usize],
         variables: &'m [RDeclared],
         words: u16,
+        procedures: &'m [RProcedure],
     ) -> CodeBuffer<'m>
-        ensures { result ≡ empty shapes.now targets.now variables.now words }
+        ensures { result ≡ empty shapes.now targets.now variables.now words (map heading_of procedures.now) }
     {
         CodeBuffer {
             alloc,
@@ -216,6 +254,8 @@ impl<'m> CodeBuffer<'m> {
             targets,
             variables,
             words,
+            procedures,
+            own: None,
             strings: Vec::new(alloc),
             held: VecDeque::new(alloc),
             bytes: Bytes::new(alloc),
@@ -225,16 +265,22 @@ impl<'m> CodeBuffer<'m> {
     }
 
     /// Where a variable lies, and the number of its shape; zeros where there is none.
-    pub fn variable(&self, number: usize) -> RField
-        ensures { result ≡ variable_by (slice_get self.now.tables.variables number) }
+    pub fn variable(&self, named: RNamed) -> RField
+        ensures { result ≡ variable_by (declared_at self.now.tables (named_view named)) }
     {
-        match self.variables.get(number) {
-            Some(variable) => RField {
-                offset: variable.offset,
-                shape: variable.shape,
-            },
-            None => NOWHERE,
+        match named {
+            RNamed::Module(number) => variable_in(self.variables, number),
+            RNamed::Level(levels, number) => {
+                local(self.procedures, self.own, levels, number).unwrap_or(NOWHERE)
+            }
         }
+    }
+
+    /// Enters a procedure, by its number from 0 on, or none.
+    pub fn enter(&mut self, own: Option<usize>)
+        ensures { self.new ≡ in_procedure own self.old }
+    {
+        self.own = own;
     }
 
     /// Where a part of a shape lies in it, by its number, and the number of its own shape: a field, or an element. Zeros

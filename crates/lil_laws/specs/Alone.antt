@@ -30,7 +30,7 @@ module _ (p : Resolved) (strings entries code : List ℕ) (small : IsSmall p str
   same zero o e = ap (λ (x : Compiled). x.text.targets) (sym (same_Some one o e))
   same (suc i) o e = absurd (none-some o e)
 
-  room : 1 + (all_words p.variables + length strings) + frame_words p.body ≤ 65535
+  room : 1 + (all_words p.variables + length strings) + frame_words [] p.body ≤ 65535
   room = omega (arith, body_small p.body, small.code, small.words)
 
   -- what was loaded

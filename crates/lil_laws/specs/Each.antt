@@ -1,7 +1,7 @@
 -- One step of the source, from any matched state.
 use Rattle.std.proofs.Common.{◌≡◌, ℕ, ◌+◌, true, false, List, [], ◌∷◌, refl, ◌⊎◌, ⊎_elim, arith}
 use Rattle.std.specs.Prelude.{ℤ}
-use Rattle.lil_resolved.specs.{Kinds.{Kind, Scalar, within}, Resolved.{Designator, Variable, Held, Field, Element, Follow, Expression, Constant, Taken, One, Two, Short, Apply, With, WithSpan, Assign, Copy, Text, Inside, Change, Member, New, Allocate, Request, If, Case, While, Repeat, Loop, Exit, Halt, Return, Call, For, Statements}}
+use Rattle.lil_resolved.specs.{Kinds.{Kind, Scalar, within}, Resolved.{Named, Designator, Variable, Held, Field, Element, Follow, Expression, Constant, Taken, One, Two, Short, Apply, With, WithSpan, Assign, Copy, Text, Inside, Change, Member, New, Allocate, Request, If, Case, While, Repeat, Loop, Exit, Halt, Return, Call, For, Statements}}
 use Rattle.lil_meaning.specs.Items.{Place, Scalars, Places, Wholes, Opens, Texts, Hole, Get, Part, IndexBy, IndexAt, Pointed, SetTo, StoreAt, CopyTo, CopyFrom, TextTo, NewAt, AllocateBy, AllocateAt, ChangeBy, ChangeAt, OneOf, LeftOf, RightOf, ShortOf, ApplyTo, WithMember, MemberOf, WithMembers, MembersFrom, MembersTo, MemberBy, MemberAt, Pass, PassArray, Choose, Turn, Again, Pick, Hold, StartOf, LimitOf, Task, Do, Passing, Until, Looping, Turns, Holding, End, Item, Value, Evaluate, PlaceOf, Fill, Perform, Source}
 use Rattle.lil_mcode.specs.Table.{State, going}
 use Rattle.lil_match.specs.{Homes.{word_for, Refers}, Goes.{Shared, Goes}, Waits.{Setting, frame_of, Mode, Quiet, ValueOf, AtPlace, Around, Reach, AfterJumps, BeginWaits, NextWaits, ItemWaits, RowsOf, Rows, Ahead, Designates, Waiting}, Steps.jumped}
@@ -116,7 +116,7 @@ module _ (ctx : Setting) where
     task_step (End n) r = end_goes ctx s k m c a shared n r
 
   -- an item into which no value comes
-  no_turns : (x : ℕ) (kind : Kind) (z step : ℤ) (left : ℕ) (body : Statements) (rest : Reach) (t : Mode) (p : ℕ) (stack : List ℕ) (c : ℕ) (a : Around) → (t ≡ Quiet → ⊥)
+  no_turns : (x : Named) (kind : Kind) (z step : ℤ) (left : ℕ) (body : Statements) (rest : Reach) (t : Mode) (p : ℕ) (stack : List ℕ) (c : ℕ) (a : Around) → (t ≡ Quiet → ⊥)
       → BeginWaits ctx x kind z step left body rest t p stack c a ⊎ NextWaits ctx x kind z step left body rest t p stack c a → ⊥
   no_turns x kind z step left body rest t p stack c a apart r = ⊎_elim (λ (b : BeginWaits ctx x kind z step left body rest t p stack c a). apart b.quiet) (λ (n : NextWaits ctx x kind z step left body rest t p stack c a). apart n.quiet) r
 

@@ -11,10 +11,10 @@ use Rattle.lil_laws.specs.Start as all
 
 -- PROCEDURE P; PROCEDURE Q; BEGIN WriteLn END Q; BEGIN Q END P; BEGIN P END
 abbrev inner : Procedure
-inner = record { name = 81 ∷ []; around = 1 ∷ []; body = Then (Request WriteLn []) Empty }
+inner = record { name = 81 ∷ []; around = 1 ∷ []; locals = []; body = Then (Request WriteLn []) Empty }
 
 abbrev outer : Procedure
-outer = record { name = 80 ∷ []; around = []; body = Then (Call 2 1) Empty }
+outer = record { name = 80 ∷ []; around = []; locals = []; body = Then (Call 2 1) Empty }
 
 abbrev text : Resolved
 text = record { name = 77 ∷ []; targets = []; names = []; variables = []; procedures = outer ∷ inner ∷ []; body = Then (Call 1 0) Empty }
@@ -32,7 +32,7 @@ translates = record {
     enter = refl;
     body = record {
       middle = 9;
-      here = record { may = record { around = []; known = refl; declared = refl }; middle = 5; mark = refl; call = refl };
+      here = record { may = record { its = record { around = []; locals = [] }; known = refl; declared = refl }; middle = 5; mark = refl; call = refl };
       then = refl;
     };
     leave = refl;
@@ -47,7 +47,7 @@ translates = record {
         enter = refl;
         body = record {
           middle = 19;
-          here = record { may = record { around = 1 ∷ []; known = refl; declared = (let less : 0 < 1 = omega arith in less, refl) }; middle = 15; mark = refl; call = refl };
+          here = record { may = record { its = record { around = 1 ∷ []; locals = [] }; known = refl; declared = (let less : 0 < 1 = omega arith in less, refl) }; middle = 15; mark = refl; call = refl };
           then = refl;
         };
         leave = refl;

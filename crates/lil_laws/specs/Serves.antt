@@ -3,9 +3,9 @@ use Rattle.std.proofs.Common.{◌≡◌, ◌⊎◌, inl, inr, ℕ, zero, suc, Bo
 use Rattle.std.specs.Prelude.{ℤ, map, slice_get}
 use Rattle.lil_base.specs.{Words.Cardinal, declared.fault.{TrapKind.TrapKind, TrapAt.TrapAt}}
 use Rattle.lil_base.specs.declared.request.Request as request
-use Rattle.lil_resolved.specs.{Kinds.{Kind, OfWhole, nat_of, Scalar, ToObject, within, value_with, ordinal_of}, Resolved.{Designator, Held, Expression, Taken, Argument, ByValue, OfArray, OfText, Statement, Exit, Call, Statements, Procedure, procedure_by, Resolved, counted_as}}
+use Rattle.lil_resolved.specs.{Kinds.{Kind, OfWhole, nat_of, Scalar, ToObject, within, value_with, ordinal_of}, Resolved.{Named, Designator, Variable, Held, Expression, Taken, Argument, ByValue, OfArray, OfText, Statement, Exit, Call, Statements, Procedure, procedure_by, Resolved, counted_as}}
 use Rattle.lil_meaning.specs.{Items.{Place, got, loaded_at, Datum, Scalars, Places, Hole, Get, StoreAt, ChangeAt, OneOf, RightOf, ApplyTo, Pass, Pick, Task, Do, Passing, Item, Value, Evaluate, PlaceOf, Fill, Perform, Activation, Level, Phase, Going, Closing, Source}, World.{World, Given, serve, closing}}
-use Rattle.lil_meaning.specs.Steps.{next, by_phase, first, given, fill, filled, filled_place, pointed, performed, did, entered, owner_of, procedures_of, current, turned_with, turned_on, picked, allocated, held_at, placed, passed, evaluated, answered, applied, one_applied, function_value, chosen, stored_with, value_of, changed, whole_of, given_of, level_of, over, left_by, leave}
+use Rattle.lil_meaning.specs.Steps.{next, by_phase, first, given, fill, filled, filled_place, pointed, performed, did, entered, owner_of, procedures_of, current, turned_at, turned_with, turned_on, variable_place, picked, allocated, found_at, placed, passed, evaluated, answered, applied, one_applied, function_value, chosen, stored_with, value_of, changed, whole_of, given_of, level_of, over, left_by, leave}
 use Rattle.lil_meaning.specs.Runs.{after}
 use Rattle.lil_meaning.specs.Items as items
 
@@ -50,11 +50,15 @@ module _ (library : List Resolved) (s : Source) where
   picked_serves None k = still refl refl refl
   picked_serves (Some body) k = still refl refl refl
 
-  valued_serves : (o : Option Scalar) (x : ℕ) (body : Statements) (k : List Item) → Serves library s (turned_with library o x body k s)
-  valued_serves None x body k = still refl refl refl
-  valued_serves (Some v) x body k = still refl refl refl
+  turned_at_serves : (o : Option Place) (v : Scalar) (body : Statements) (k : List Item) → Serves library s (turned_at o v body k s)
+  turned_at_serves None v body k = still refl refl refl
+  turned_at_serves (Some p) v body k = still refl refl refl
 
-  turned_serves : (x : ℕ) (kind : Kind) (z step : ℤ) (left : ℕ) (body : Statements) (k : List Item) → Serves library s (turned_on library x kind z step left body k s)
+  valued_serves : (o : Option Scalar) (x : Named) (body : Statements) (k : List Item) → Serves library s (turned_with library o x body k s)
+  valued_serves None x body k = still refl refl refl
+  valued_serves (Some v) x body k = turned_at_serves (variable_place s x) v body k
+
+  turned_serves : (x : Named) (kind : Kind) (z step : ℤ) (left : ℕ) (body : Statements) (k : List Item) → Serves library s (turned_on library x kind z step left body k s)
   turned_serves x kind z step zero body k = still refl refl refl
   turned_serves x kind z step (suc left) body k = valued_serves (value_with kind z) x body _
 
@@ -92,7 +96,7 @@ module _ (library : List Resolved) (s : Source) where
   fill_serves (Places p) h k = placed_fill h p k
   fill_serves _ h k = still refl refl refl
 
-  entered_serves : (o : Option Procedure) (a : Activation) (k : List Item) → (HasNone library → o ≡ None) → Serves library s (entered o a k s)
+  entered_serves : (o : Option Procedure) (a : Procedure → Activation) (k : List Item) → (HasNone library → o ≡ None) → Serves library s (entered o a k s)
   entered_serves None a k none = still refl refl refl
   entered_serves (Some q) a k none = record { world = inl refl; first = λ e. e; same = λ bare e. (let clash = none bare in cc) }
 
@@ -123,12 +127,13 @@ module _ (library : List Resolved) (s : Source) where
   evaluated_serves (Taken d kind) k = still refl refl refl
   evaluated_serves _ k = still refl refl refl
 
-  held_serves : (o : Option Place) (k : List Item) → Serves library s (held_at o k s)
-  held_serves None k = still refl refl refl
-  held_serves (Some p) k = still refl refl refl
+  found_serves : (o : Option Place) (k : List Item) → Serves library s (found_at o k s)
+  found_serves None k = still refl refl refl
+  found_serves (Some p) k = still refl refl refl
 
   placed_serves : (d : Designator) (k : List Item) → Serves library s (placed d k s)
-  placed_serves (Held w) k = held_serves _ k
+  placed_serves (Variable v) k = found_serves (variable_place s v) k
+  placed_serves (Held w) k = found_serves _ k
   placed_serves _ k = still refl refl refl
 
   over_serves : (ls : List Level) (end : Option TrapAt) → s.waiting ≡ ls → Serves library s (over ls end s)

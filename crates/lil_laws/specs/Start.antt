@@ -1,16 +1,17 @@
 -- From loaded modules, whose bodies run one behind another.
-use Rattle.std.proofs.Common.{◌≡◌, ℕ, zero, suc, ◌+◌, ◌-◌, ◌*◌, ◌<◌, ◌≤◌, Option, Some, None, List, [], ◌∷◌, length, map, get_or, refl, sym, ap, ◌∙◌, subst, arith}
+use Rattle.std.proofs.Common.{◌≡◌, ℕ, zero, suc, ◌+◌, ◌-◌, ◌*◌, ◌<◌, ◌≤◌, inl, false, Option, Some, None, List, [], ◌∷◌, length, map, get_or, refl, sym, ap, ◌∙◌, subst, arith}
 use Rattle.std.specs.Prelude.{slice_get, option_map}
-use Rattle.std.proofs.lemmas.Bool.{le-ltb}
-use Rattle.lil_resolved.specs.{Kinds.{Shape, all_words, shape_by, shape_at}, Resolved.{Resolved, procedure_by, around_of}, Sizes.frame_words}
+use Rattle.std.specs.List.{list_any}
+use Rattle.std.proofs.lemmas.{Bool.{le-ltb, ne_eqb}, Option.none-some}
+use Rattle.lil_resolved.specs.{Kinds.{Shape, all_words, shape_by, shape_at}, Resolved.{Resolved, procedure_by, outline_of}, Sizes.frame_words}
 use Rattle.lil_meaning.specs.{Items.{loaded_at, variables_of, targets_of, Item, Perform, End, Activation, Source, doing}, World.World, Need.frame_of, Steps.{owner_of, procedure_of, procedures_of, name_of}, Runs.{begun, bodies, body_of, body_activations, src}}
 use Rattle.lil_asm.specs.{declared.instr.Instr.TheVariants.{Ent, Rtn}, Stretches.{stretch, decoded_inside}}
-use Rattle.lil_mcode.specs.{declared.machine.Event.TheVariants.Went, Table.{State, fetched, performed}}
+use Rattle.lil_mcode.specs.{declared.machine.Event.TheVariants.Went, Table.{State, enter_row, fetched, performed}}
 use Rattle.lil_frames.specs.Words.{zeros, cleared}
-use Rattle.lil_table.specs.Rows.{in_procedure, layout_of}
-use Rattle.lil_match.specs.{Goes.{IsKnown, EachComes, Shared}, Running.{Run, mrun, running, advanced}, Parts.no, Homes.Home, Waits.{Frame, Setting, Quiet, outside, RowsOf, Rows, Ahead, Behind}, Steps.{advances, at_once, rows_ahead}, Orders.instr_within, Splices.{spliced_length, spliced_before, zeros_length}}
+use Rattle.lil_table.specs.Rows.{framed, in_procedure, layout_of}
+use Rattle.lil_match.specs.{Goes.{IsKnown, EachComes, HasLocals, EachLocal, Shared}, Running.{Run, mrun, running, advanced}, Parts.no, Homes.Home, Waits.{Frame, is_of, Setting, Quiet, outside, RowsOf, Rows, Ahead, Behind}, Steps.{advances, at_once, rows_ahead}, Orders.instr_within, Splices.{spliced_length, spliced_before, zeros_length}}
 use Rattle.lil_laws_stmt.specs.Control.{body_rows}
-use Rattle.lil_laws.specs.{Loading.{Compiled, text_of, data_end, entry_for, table_from, numbers_from, data_placed, image}, Placing.{place_from, variable_from, text_at, table_there, variable_offset, HasData, data_length, has_data, string_fixed, strings_low, home, owner_own, owner_free, mem}}
+use Rattle.lil_laws.specs.{Loading.{Compiled, text_of, data_end, entry_for, table_from, numbers_from, data_placed, image}, Placing.{place_from, variable_from, text_at, table_there, variable_offset, HasData, data_length, has_data, string_fixed, strings_low, home, above, owner_own, owner_free, mem}}
 use Rattle.lil_laws.specs.{Entries.{body_within, body_apart, entry_row}, Whole.{Unlimited, Agrees, limits, still_agrees, follows}, Reaching.{Reaches, reaches_before, reaches}}
 
 -- one of the modules, whose body runs
@@ -34,6 +35,7 @@ module _ (os : List Compiled) where
     piece = stretch 0 b.its.translates.middle b.its.code;
     layout = layout_of b.its.strings b.its.text;
     at = data_end 1 os;
+    display = [];
     back = 0;
   }
 
@@ -65,23 +67,25 @@ module _ (os : List Compiled) where
 
     -- the code of bodies does what is left to do
     body_at : (a : ℕ) (b : Body os) (bs : List (Body os)) → Behind (setting (frame_for a b) (frames (suc a) bs)) (bodies library loaded (suc a) (map number bs)) (RowsOf (bodies library loaded (suc a) (map number bs))) 0 [] (frames (suc a) bs)
-        → Rows (setting (frame_for a b) (frames (suc a) bs)) (bodies library loaded a (map number (b ∷ bs))) Quiet b.its.translates.body.start [] 0 outside
+        → Rows (setting (frame_for a b) (frames (suc a) bs)) (bodies library loaded a (map number (b ∷ bs))) Quiet b.its.translates.body.start [] 0 (outside (frame_for a b))
     body_at a b bs behind =
         let t = b.its.translates.body in
         let ctx = setting (frame_for a b) (frames (suc a) bs) in
         let rest : List Item = Perform (End a) ∷ bodies library loaded (suc a) (map number bs) in
-        subst (λ (o : Option Resolved). Rows ctx (doing (body_of o) rest) Quiet t.start [] 0 outside) (sym (text b))
-        (body_rows ctx b.its.text.body rest t.start t.end 0 outside t.body (instr_within (stretch 0 b.its.translates.middle b.its.code) t.end Rtn b.its.translates.middle t.leave)
-        (at_once ctx _ Quiet t.end [] 0 outside
+        subst (λ (o : Option Resolved). Rows ctx (doing (body_of o) rest) Quiet t.start [] 0 (outside (frame_for a b))) (sym (text b))
+        (body_rows ctx b.its.text.body rest t.start t.end 0 (outside (frame_for a b)) t.body (instr_within (stretch 0 b.its.translates.middle b.its.code) t.end Rtn b.its.translates.middle t.leave)
+        (at_once ctx _ Quiet t.end [] 0 (outside (frame_for a b))
         (record { quiet = refl; empty = refl; activation = refl; alone = refl; free = refl; end = b.its.translates.middle; leave = t.leave; behind = behind })))
 
-    rows_of : (a : ℕ) (b : Body os) (bs : List (Body os)) → Rows (setting (frame_for a b) (frames (suc a) bs)) (bodies library loaded a (map number (b ∷ bs))) Quiet b.its.translates.body.start [] 0 outside
+    rows_of : (a : ℕ) (b : Body os) (bs : List (Body os)) → Rows (setting (frame_for a b) (frames (suc a) bs)) (bodies library loaded a (map number (b ∷ bs))) Quiet b.its.translates.body.start [] 0 (outside (frame_for a b))
     rows_of a b [] = body_at a b [] refl
     rows_of a b (c ∷ bs) =
         body_at a b (c ∷ bs)
         (record {
           body = refl;
           low = omega arith;
+          plain = refl;
+          bare = refl;
           start = c.its.translates.body.start;
           enter = c.its.translates.body.enter;
           then = rows_of (suc a) c bs;
@@ -106,7 +110,7 @@ module _ (os : List Compiled) where
       entered = record { there = refl; apart = body_apart b.its };
       piece = record { is = refl; within = body_within b.its };
       size = sym (ap (λ (m : Option Resolved). frame_of m 0) (text b));
-      procedures = ap (λ (m : Option Resolved). map around_of (procedures_of m)) (sym (text b));
+      procedures = ap (λ (m : Option Resolved). map outline_of (procedures_of m)) (sym (text b));
       codes = λ p q there.
           let e = entry_row b.its p q (ap (λ (m : Option Resolved). procedure_by (procedures_of m) p) (sym (text b)) ∙ there) in
           record {
@@ -138,12 +142,28 @@ module _ (os : List Compiled) where
         → EachComes library loaded (table_from 1 os) all h (data_end 1 os) (frames a bs)
     each_comes a [] later runs = tt
     each_comes a (b ∷ bs) later runs = (
-      record { known = known a b (ap (slice_get all) (let e : a ≡ a + 0 = omega arith in e) ∙ runs 0); later = later; at = refl; mark = omega arith; chain = refl },
+      record { known = known a b (ap (slice_get all) (let e : a ≡ a + 0 = omega arith in e) ∙ runs 0); later = later; at = refl; mark = omega arith; chain = refl; display = refl },
       each_comes (suc a) bs (omega arith) (λ i. ap (slice_get all) (let e : suc a + i ≡ a + suc i = omega arith in e) ∙ runs (suc i)),
     )
 
+    -- bodies have no variables
+    no_locals : (a : ℕ) (b : Body os) → slice_get all a ≡ Some (record { owner = suc b.index; procedure = 0; outer = None; slots = [] }) → HasLocals all h (frame_for a b)
+    no_locals a b runs = record { its = record { owner = suc b.index; procedure = 0; outer = None; slots = [] }; runs = runs; slots = refl; variables = λ x o t at. absurd (none-some o at) }
+
+    later_ones : (a n : ℕ) (bs : List (Body os)) → a < n → list_any (is_of a) (frames n bs) ≡ false
+    later_ones a n [] less = refl
+    later_ones a n (b ∷ bs) less = cc (ne_eqb n a (λ e. omega (arith, e, less)), later_ones a (suc n) bs (omega (arith, less)))
+
+    each_bare : (a : ℕ) (bs : List (Body os)) → ((i : ℕ) → slice_get all (a + i) ≡ slice_get (body_activations (map number bs)) i) → EachLocal all h (frames a bs)
+    each_bare a [] runs = tt
+    each_bare a (b ∷ bs) runs = (
+      no_locals a b (ap (slice_get all) (let e : a ≡ a + 0 = omega arith in e) ∙ runs 0),
+      later_ones a (suc a) bs (omega arith),
+      each_bare (suc a) bs (λ i. ap (slice_get all) (let e : suc a + i ≡ a + suc i = omega arith in e) ∙ runs (suc i)),
+    )
+
 -- these bodies run in their order, and the first one's frame has room
-module _ (os : List Compiled) (targets : List Shape) (same : Pointing os targets) (b : Body os) (bs : List (Body os)) (room : data_end 1 os + frame_words b.its.text.body ≤ 65535) where
+module _ (os : List Compiled) (targets : List Shape) (same : Pointing os targets) (b : Body os) (bs : List (Body os)) (room : data_end 1 os + frame_words [] b.its.text.body ≤ 65535) where
   abbrev pub begins : State
   begins = image os (suc b.index) (map (number os) bs)
 
@@ -151,7 +171,7 @@ module _ (os : List Compiled) (targets : List Shape) (same : Pointing os targets
   end = data_end 1 os
 
   abbrev size : ℕ
-  size = frame_words b.its.text.body
+  size = frame_words [] b.its.text.body
 
   abbrev mark : List ℕ
   mark = 0 ∷ 0 ∷ 0 ∷ suc b.index ∷ []
@@ -210,6 +230,7 @@ module _ (os : List Compiled) (targets : List Shape) (same : Pointing os targets
   shared w = record {
     mem = mem targets os size entered (omega (arith, room)) entered_length placed;
     heap = record { born = λ o. refl; above = λ o there. cc; apart = λ o p there. cc; known = refl; clear = λ w less. omega (arith, less); distinct = λ w v less. omega (arith, less); rest = omega arith };
+    unborn = λ a x past. refl;
     program = record { table_is = refl; known = table_there 1 os b.index b.its b.there; piece = record { is = refl; within = body_within b.its }; running_is = refl; marked_is = refl };
     standing = record {
       frame_is = refl;
@@ -219,9 +240,11 @@ module _ (os : List Compiled) (targets : List Shape) (same : Pointing os targets
       known = known os targets same (body_activations order) size entered (omega (arith, room)) placed 0 b refl;
       callers = tt;
       comes = each_comes os targets same (body_activations order) size entered (omega (arith, room)) placed 1 bs (omega arith) (λ i. ap (slice_get (body_activations order)) (let e : 1 + i ≡ suc i = omega arith in e));
-      stands = (record { mark = omega arith; below = omega arith; most = omega arith; own = λ i l. owner_own targets os size entered (end + i) (omega arith) (omega (arith, l)) }, refl);
-      links = tt;
+      stands = (record { mark = omega arith; below = omega arith; most = omega arith; own = λ i free l. owner_own targets os size entered (end + i) (omega arith) (omega (arith, l)); mine = λ i l. inl (owner_own targets os size entered (end + i) (omega arith) (omega (arith, l))) }, refl);
+      links = refl;
+      locals = each_bare os targets same (body_activations order) size entered (omega (arith, room)) placed 0 (b ∷ bs) (λ i. ap (slice_get (body_activations order)) (let e : 0 + i ≡ i = omega arith in e));
       room = λ a from below. owner_free targets os size entered a (omega (arith, from));
+      based = above targets os size entered;
       low = omega (arith, room);
       high = omega arith;
     };
@@ -242,12 +265,13 @@ module _ (os : List Compiled) (targets : List Shape) (same : Pointing os targets
       advances begins w (Went, entered_at) (
       ap (fetched begins) (table_there 1 os b.index b.its b.there)
       ∙ ap (performed begins (entry_for b.its (place_from 1 os b.index))) (decoded_inside 0 b.its.translates.middle b.its.code 0 _ (body_within b.its) b.its.translates.body.enter).there
+      ∙ ap (λ (n : ℕ). enter_row n b.its.translates.body.start begins) (let e : framed size ≡ size = omega (arith, room) in e)
       ∙ no _ _ _ (le-ltb (end + size) (end + 4) (omega arith))
       ∙ no _ _ _ (le-ltb 65535 (end + size) room)
       )
 
-  ahead : Ahead ctx items Quiet b.its.translates.body.start [] 0 outside
-  ahead = rows_ahead ctx items b.its.translates.body.start [] 0 outside (rows_of os (body_activations order) (home targets os size entered) 0 b bs)
+  ahead : Ahead ctx items Quiet b.its.translates.body.start [] 0 (outside (frame_for os 0 b))
+  ahead = rows_ahead ctx items b.its.translates.body.start [] 0 (outside (frame_for os 0 b)) (rows_of os (body_activations order) (home targets os size entered) 0 b bs)
 
   abbrev pub state_after : World → ℕ → Source
   state_after w n = src (map text_of os) (numbers_from 0 os) (map (number os) (b ∷ bs)) w n
@@ -261,7 +285,7 @@ module _ (os : List Compiled) (targets : List Shape) (same : Pointing os targets
   pub correct : (w : World) (steps : ℕ) → Correct w steps
   correct w zero = record { n = 0; agrees = still_agrees (table_from 1 os) (limits ctx) (first w) items (running begins w) (record { world = refl; finish = refl }); far = λ u. omega arith }
   correct w (suc steps) =
-      let f = follows ctx (first w) items entered_at steps 0 outside tt (shared w) ahead in
+      let f = follows ctx (first w) items entered_at steps 0 (outside (frame_for os 0 b)) tt (shared w) ahead in
       record {
         n = f.n;
         agrees = subst (λ (r : Run). Agrees (table_from 1 os) (limits ctx) (state_after w f.n) (mrun steps r)) (sym (enters w)) f.agrees;
@@ -270,4 +294,4 @@ module _ (os : List Compiled) (targets : List Shape) (same : Pointing os targets
 
   -- each state of the meaning has shown what the run has shown after some number of steps, unless that meets a limit
   pub reached : (w : World) (n : ℕ) → Reaches (map text_of os) (first w) (running begins w) n
-  reached w n = reaches_before (map text_of os) (first w) (running begins w) (running entered_at w) 1 n (enters w) (reaches ctx n (first w) items entered_at 0 outside tt (shared w) ahead)
+  reached w n = reaches_before (map text_of os) (first w) (running begins w) (running entered_at w) 1 n (enters w) (reaches ctx n (first w) items entered_at 0 (outside (frame_for os 0 b)) tt (shared w) ahead)

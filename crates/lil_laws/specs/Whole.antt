@@ -276,7 +276,7 @@ module _ (ctx : Setting) where
       rests = each_rests (at acts x y) g.activations g.home g.stack g.grown g.touch g.same ctx.parked ctx.kept met.0
 
       based : g.stack.base ≡ ctx.stack.base
-      based = g.same.0 ∙ met.3
+      based = g.same.base ∙ met.3
 
       by_lands : g.steps ≤ steps → Lands (at g.activations g.home g.stack) (next library (At s k)).phase (next library (At s k)) (mrun g.steps (running m s.world)) g.later → Follows (At s k) (running m s.world) steps c
       by_lands more lands =

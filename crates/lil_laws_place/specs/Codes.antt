@@ -1,15 +1,16 @@
 -- What the instructions do by which code has a place; a value that is tested, and one that is stored.
-use Rattle.std.proofs.Common.{◌≡◌, ℕ, ◌+◌, ◌≤◌, Bool, true, false, cond, List, [], ◌∷◌, set, refl, sym, ap, ◌∙◌, subst, arith, ◌-◌, ◌++◌, length, get_or, take, drop}
+use Rattle.std.proofs.Common.{◌≡◌, ℕ, zero, suc, Some, ◌+◌, ◌≤◌, Bool, true, false, cond, List, [], ◌∷◌, set, refl, sym, ap, ◌∙◌, subst, arith, ◌-◌, ◌++◌, length, get_or, take, drop}
 use Rattle.lil_base.specs.declared.fault.TrapKind.{TrapKind}
 use Rattle.lil_base.specs.declared.fault.TrapKind.TheVariants as trap
 use Rattle.lil_resolved.specs.Kinds.{Kind, is_base, takes_value, compared_as, covers, shared, Scalar, within, scalar_word, ordinal_of, Word, OfCharacter, Shape, Row, words, part_at, offset, is_there}
 use Rattle.lil_meaning.specs.{Items.{Place, stored, alone, Item, Going, Source, part_of}, Steps.{next, current, trapped}}
-use Rattle.lil_mcode.specs.{declared.machine.Event.{Event, TheVariants.{Went, Trap}}, Table.{State, mstep, going, act, on_one, on_two, double_row, push_row, fetch_row, put_row, store_row, further_row}}
-use Rattle.lil_table.specs.Rows.{IsAt, InstrsAt, range_code, test_code, Access, readied, store_code, InData, OnTop, Behind, further, address_code, load_code, ready_code, held, again_code, held_twice, under_code}
-use Rattle.lil_match.specs.{Goes.{Shared, Goes, Lands}, Running.{Run, running, react}, Parts.yes, Homes.{word_for, Refers, address, Mem, mem_stored, shape_there, place_inside, part_there}, Waits.{Setting, frame_of, Quiet, Around, Rows, HasPlace, doubled}, Ranges.{has, fits_has, taken_where, takes_base}, Tests.{covered, test_act}}
+use Rattle.lil_mcode.specs.{declared.machine.Event.{Event, TheVariants.{Went, Trap}}, Table.{State, mstep, going, act, on_one, on_two, double_row, frame_out, load_row, address_row, push_row, fetch_row, put_row, store_row, further_row}}
+use Rattle.lil_table.specs.Rows.{IsAt, InstrsAt, range_code, test_code, Access, readied, store_code, InData, InFrame, OnTop, Behind, framed, further, address_code, load_code, ready_code, held, again_code, held_twice, under_code}
+use Rattle.lil_match.specs.{Goes.{Shared, Goes, Lands}, Running.{Run, running, react}, Parts.yes, Parts.part_fits, Climbs.{first_own, shown_out}, Homes.{word_for, Refers, address, Mem, mem_stored, shape_there, place_inside, part_there}, Waits.{Setting, frame_of, Quiet, Around, Rows, HasPlace, doubled}, Ranges.{has, fits_has, taken_where, takes_base}, Tests.{covered, test_act}}
 use Rattle.lil_match.specs.{Steps.{both_trap, advances, at_step, rows_ahead, shared_with, goes_one_within, goes_after, goes_more, pushes}, Splices.block_alone}
+use Rattle.std.specs.Prelude.{slice_get}
 use Rattle.std.proofs.lemmas.Bool.{lt-ltb, le-leb, and_from}
-use Rattle.lil_asm.specs.declared.instr.Instr.{Instr, TheVariants.{Dup, Swp, Lgw, Lag, Ldi, Adf, Mov, Mvz}}
+use Rattle.lil_asm.specs.declared.instr.Instr.{Instr, TheVariants.{Dup, Swp, Lgw, Lag, Lal, Lan, Ldi, Adf, Mov, Mvz}}
 use Rattle.lil_frames.specs.Words.{spliced, moved}
 
 top_behind : (o : ℕ) → OnTop ≡ Behind o → ⊥
@@ -24,6 +25,21 @@ module _ (ctx : Setting) where
   inside s m shared b place t stack below has =
       omega (arith, place_inside h s.cells m.store place shared.mem (ap is_there has.living ∙ has.there), ap words has.living)
 
+  -- ---- in the frame so many static links out
+  frame_at : (s : Source) (m : State) → Shared ctx s m → (n first : ℕ) → slice_get ctx.stack.frame.display n ≡ Some first → frame_out m.store m.frame n ≡ first
+  frame_at s m shared n first shown =
+      ap (λ (f : ℕ). frame_out m.store f n) shared.standing.frame_is
+      ∙ shown_out h.shadow ctx.activations m.store ctx.stack.frame ctx.stack.callers shared.standing.links
+      (λ g among. shared.mem.kept g.at (first_own h.owner ctx.stack.base m.top ctx.stack.frame ctx.stack.callers shared.standing.stands g among)) n first shown
+
+  frame_load : (n o q : ℕ) (m : State) → act (load_code (InFrame n o)) q own m ≡ load_row (frame_out m.store m.frame n + o) q m
+  frame_load zero o q m = refl
+  frame_load (suc n) o q m = refl
+
+  frame_store : (n o q : ℕ) (m : State) → act (store_code (InFrame n o)) q own m ≡ on_one m m.stack (store_row (frame_out m.store m.frame n + o) q m)
+  frame_store zero o q m = refl
+  frame_store (suc n) o q m = refl
+
   -- the word that lies there is loaded
   pub loads : (s : Source) (m : State) → Shared ctx s m → (b : Access) (place : Place) (k : Kind) (below : List ℕ) → HasPlace ctx b place (Word k) m.stack below → length below + 1 ≤ 16 → (q : ℕ)
       → act (load_code b) q own m ≡ (Went, going m q (get_or m.store (address h place) 0 ∷ below))
@@ -33,6 +49,14 @@ module _ (ctx : Setting) where
       ∙ ap (λ (a : ℕ). push_row (get_or m.store a 0) q m) (sym has.at.0)
       ∙ pushes (get_or m.store (address h place) 0) q m (omega (arith, room, ap length has.at.1))
       ∙ ap (λ (x : List ℕ). (Went, going m q (get_or m.store (address h place) 0 ∷ x))) has.at.1
+  loads s m shared (InFrame n o) place k below has room q =
+      let low = inside s m shared (InFrame n o) place (Word k) m.stack below has in
+      let at : frame_out m.store m.frame n + o ≡ address h place = ap (λ (f : ℕ). f + o) (frame_at s m shared n has.at.0 has.at.1) ∙ sym has.at.2 in
+      frame_load n o q m
+      ∙ ap (λ (a : ℕ). load_row a q m) at
+      ∙ yes _ _ _ (lt-ltb (address h place) 65536 (omega (arith, low)))
+      ∙ pushes (get_or m.store (address h place) 0) q m (omega (arith, room, ap length has.at.3))
+      ∙ ap (λ (x : List ℕ). (Went, going m q (get_or m.store (address h place) 0 ∷ x))) has.at.3
   loads s m shared OnTop place k below has room q =
       let low = inside s m shared OnTop place (Word k) m.stack below has in
       let same : address h place + 0 ≡ address h place = omega arith in
@@ -54,6 +78,14 @@ module _ (ctx : Setting) where
       ∙ yes _ _ _ (lt-ltb (own.base + o) 65536 (omega (arith, low, has.at.0)))
       ∙ ap (λ (a : ℕ). (Went, record m { place = q; stack = under; store = set m.store a w })) (sym has.at.0)
       ∙ ap (λ (x : List ℕ). (Went, record m { place = q; stack = x; store = set m.store (address h place) w })) has.at.1
+  puts s m shared (InFrame n o) place k under has ready w is q =
+      let low = inside s m shared (InFrame n o) place (Word k) under [] has in
+      let at : frame_out m.store m.frame n + o ≡ address h place = ap (λ (f : ℕ). f + o) (frame_at s m shared n has.at.0 has.at.1) ∙ sym has.at.2 in
+      frame_store n o q m
+      ∙ ap (λ (a : ℕ). on_one m m.stack (store_row a q m)) at
+      ∙ ap (λ (x : List ℕ). on_one m x (store_row (address h place) q m)) is
+      ∙ yes _ _ _ (lt-ltb (address h place) 65536 (omega (arith, low)))
+      ∙ ap (λ (x : List ℕ). (Went, record m { place = q; stack = x; store = set m.store (address h place) w })) has.at.3
   puts s m shared OnTop place k under has ready w is q =
       let low = inside s m shared OnTop place (Word k) under [] has in
       ap (λ (x : List ℕ). on_two m x (put_row q m)) (is ∙ ap (λ (x : List ℕ). w ∷ x) has.at)
@@ -61,9 +93,9 @@ module _ (ctx : Setting) where
   puts s m shared (Behind o) place k under has ready w is q = absurd (top_behind o ready)
 
   -- a part of a place
-  pub part_has : (b : Access) (place : Place) (t : Shape) (stack below : List ℕ) → HasPlace ctx b place t stack below → (x : ℕ) → is_there (part_at t (x ∷ [])) ≡ true
+  pub part_has : (s : Source) (m : State) → Shared ctx s m → (b : Access) (place : Place) (t : Shape) (stack below : List ℕ) → HasPlace ctx b place t stack below → (x : ℕ) → is_there (part_at t (x ∷ [])) ≡ true
       → HasPlace ctx (further (offset t (x ∷ [])) b) (part_of place x) (part_at t (x ∷ [])) stack below
-  part_has b place t stack below has x there =
+  part_has s m shared b place t stack below has x there =
       let part = part_there h place x (ap is_there has.living ∙ has.there) in
       let at : address h (part_of place x) ≡ address h place + offset t (x ∷ []) = omega (arith, part.1, ap (λ (z : Shape). offset z (x ∷ [])) has.living) in
       let living : shape_there h (part_of place x) ≡ part_at t (x ∷ []) = part.0 ∙ ap (λ (z : Shape). part_at z (x ∷ [])) has.living in
@@ -72,6 +104,11 @@ module _ (ctx : Setting) where
       by : (b : Access) → HasPlace ctx b place t stack below → address h (part_of place x) ≡ address h place + offset t (x ∷ []) → shape_there h (part_of place x) ≡ part_at t (x ∷ [])
           → HasPlace ctx (further (offset t (x ∷ [])) b) (part_of place x) (part_at t (x ∷ [])) stack below
       by (InData o) has at living = record { seen = has.seen; living = living; there = there; at = (omega (arith, at, has.at.0), has.at.1) }
+      by (InFrame n o) has at living =
+          let low = inside s m shared (InFrame n o) place t stack below has in
+          let more = part_fits t (x ∷ []) there in
+          let exact : framed (o + offset t (x ∷ [])) ≡ o + offset t (x ∷ []) = omega (arith, low, has.at.2, more) in
+          record { seen = has.seen; living = living; there = there; at = (has.at.0, has.at.1, omega (arith, at, has.at.2, exact), has.at.3) }
       by OnTop has at living = record { seen = has.seen; living = living; there = there; at = (address h place, at, has.at) }
       by (Behind o) has at living = record { seen = has.seen; living = living; there = there; at = (has.at.0, omega (arith, at, has.at.1), has.at.2) }
 
@@ -80,6 +117,15 @@ module _ (ctx : Setting) where
       → act i q own (going m p stack) ≡ (Went, going m q to) → Goes ctx s items (going m q to) rest → rest + 1 ≤ budget → Goes ctx s items (going m p stack) budget
   leads s items m shared i p q stack to budget rest at row goes less =
       goes_after ctx s items (going m p stack) (going m q to) budget rest (advances (going m p stack) s.world _ (at_step ctx (going m p stack) shared.program i q at ∙ row)) goes less
+
+  frame_address : (s : Source) (m : State) → Shared ctx s m → (n o : ℕ) (place : Place) (t : Shape) (stack below : List ℕ) → HasPlace ctx (InFrame n o) place t stack below → length below + 1 ≤ 16 → (p q : ℕ)
+      → address_row (frame_out m.store m.frame n + o) q (going m p stack) ≡ (Went, going m q (address h place ∷ below))
+  frame_address s m shared n o place t stack below has room p q =
+      let low = inside s m shared (InFrame n o) place t stack below has in
+      ap (λ (a : ℕ). address_row a q (going m p stack)) (ap (λ (f : ℕ). f + o) (frame_at s m shared n has.at.0 has.at.1) ∙ sym has.at.2)
+      ∙ yes _ _ _ (lt-ltb (address h place) 65536 (omega (arith, low)))
+      ∙ pushes (address h place) q (going m p stack) (omega (arith, room, ap length has.at.3))
+      ∙ ap (λ (x : List ℕ). (Went, going m q (address h place ∷ x))) has.at.3
 
   -- the address of a place comes to the expression stack
   pub addressed : (s : Source) (items : List Item) (m : State) → Shared ctx s m → (b : Access) (place : Place) (t : Shape) (stack below : List ℕ) → HasPlace ctx b place t stack below → length below + 1 ≤ 16
@@ -91,6 +137,16 @@ module _ (ctx : Setting) where
       ∙ pushes (own.base + o) at.0 (going m p stack) (omega (arith, room, ap length has.at.1))
       ∙ ap (λ (a : ℕ). (Went, going m at.0 (a ∷ stack))) (sym has.at.0)
       ∙ ap (λ (x : List ℕ). (Went, going m at.0 (address h place ∷ x))) has.at.1)
+      (subst (λ (x : ℕ). Goes ctx s items (going m x (address h place ∷ below)) rest) (sym at.2) goes)
+      less
+  addressed s items m shared (InFrame zero o) place t stack below has room p q budget rest at goes less =
+      leads s items m shared (Lal o) p at.0 stack (address h place ∷ below) budget rest at.1
+      (frame_address s m shared zero o place t stack below has room p at.0)
+      (subst (λ (x : ℕ). Goes ctx s items (going m x (address h place ∷ below)) rest) (sym at.2) goes)
+      less
+  addressed s items m shared (InFrame (suc n) o) place t stack below has room p q budget rest at goes less =
+      leads s items m shared (Lan (suc n) o) p at.0 stack (address h place ∷ below) budget rest at.1
+      (frame_address s m shared (suc n) o place t stack below has room p at.0)
       (subst (λ (x : ℕ). Goes ctx s items (going m x (address h place ∷ below)) rest) (sym at.2) goes)
       less
   addressed s items m shared OnTop place t stack below has room p q budget rest at goes less =
@@ -132,6 +188,8 @@ module _ (ctx : Setting) where
       → Goes ctx s items (going m p stack) budget
   made_ready s items m shared (InData o) place t stack below has p q budget rest at goes less =
       goes_more ctx s items (going m p stack) rest budget (subst (λ (x : ℕ). Goes ctx s items (going m x stack) rest) (sym at) (goes stack has)) (omega (arith, less))
+  made_ready s items m shared (InFrame n o) place t stack below has p q budget rest at goes less =
+      goes_more ctx s items (going m p stack) rest budget (subst (λ (x : ℕ). Goes ctx s items (going m x stack) rest) (sym at) (goes stack has)) (omega (arith, less))
   made_ready s items m shared OnTop place t stack below has p q budget rest at goes less =
       goes_more ctx s items (going m p stack) rest budget (subst (λ (x : ℕ). Goes ctx s items (going m x stack) rest) (sym at) (goes stack has)) (omega (arith, less))
   made_ready s items m shared (Behind o) place t stack below has p q budget rest at goes less =
@@ -147,17 +205,20 @@ module _ (ctx : Setting) where
   -- a place that is ready is as it is when it is made ready once more
   pub readied_twice : (b : Access) → readied (readied b) ≡ readied b
   readied_twice (InData o) = refl
+  readied_twice (InFrame n o) = refl
   readied_twice OnTop = refl
   readied_twice (Behind o) = refl
 
   -- the words that a place takes
   pub held_words : (b : Access) (place : Place) (t : Shape) (stack below : List ℕ) → HasPlace ctx b place t stack below → length stack ≡ held b + length below
   held_words (InData o) place t stack below has = omega (arith, ap length has.at.1)
+  held_words (InFrame n o) place t stack below has = omega (arith, ap length has.at.3)
   held_words OnTop place t stack below has = omega (arith, ap length has.at)
   held_words (Behind o) place t stack below has = omega (arith, ap length has.at.2)
 
   pub twice_words : (b : Access) (place : Place) (t : Shape) (once : List ℕ) → HasPlace ctx b place t once [] → length (doubled b once) ≡ held_twice b
   twice_words (InData o) place t once has = ap length has.at.1
+  twice_words (InFrame n o) place t once has = ap length has.at.3
   twice_words OnTop place t once has = ap (λ (x : List ℕ). length (x ++ x)) has.at
   twice_words (Behind o) place t once has = ap (λ (x : List ℕ). length (x ++ x)) has.at.2
 
@@ -165,6 +226,8 @@ module _ (ctx : Setting) where
   pub kept_twice : (s : Source) (items : List Item) (m : State) → Shared ctx s m → (b : Access) (place : Place) (t : Shape) (once : List ℕ) → HasPlace ctx b place t once [] → readied b ≡ b
       → (p q budget rest : ℕ) → InstrsAt piece (again_code b) p q → Goes ctx s items (going m q (doubled b once)) rest → rest + 1 ≤ budget → Goes ctx s items (going m p once) budget
   kept_twice s items m shared (InData o) place t once has ready p q budget rest at goes less =
+      goes_more ctx s items (going m p once) rest budget (subst (λ (x : ℕ). Goes ctx s items (going m x once) rest) (sym at) goes) (omega (arith, less))
+  kept_twice s items m shared (InFrame n o) place t once has ready p q budget rest at goes less =
       goes_more ctx s items (going m p once) rest budget (subst (λ (x : ℕ). Goes ctx s items (going m x once) rest) (sym at) goes) (omega (arith, less))
   kept_twice s items m shared OnTop place t once has ready p q budget rest at goes less =
       leads s items m shared Dup p at.0 once (once ++ once) budget rest at.1
@@ -185,6 +248,19 @@ module _ (ctx : Setting) where
       (yes _ _ _ (lt-ltb (own.base + o) 65536 (omega (arith, low, has.at.0)))
       ∙ pushes (get_or m.store (own.base + o) 0) at.0 (going m p (w ∷ once)) (omega (arith, ap length has.at.1))
       ∙ ap (λ (a : ℕ). let e : Event × State = (Went, going m at.0 (get_or m.store a 0 ∷ w ∷ once)) in e) (sym has.at.0))
+      (leads s items m shared Swp at.0 at.2.0 (old ∷ w ∷ once) (w ∷ old ∷ once) (rest + 1) rest at.2.1 refl
+      (subst (λ (x : ℕ). Goes ctx s items (going m x (w ∷ old ∷ once)) rest) (sym at.2.2) goes)
+      (omega arith))
+      (omega (arith, less))
+  brings_under s items m shared (InFrame n o) place k once has ready w p q budget rest at goes less =
+      let low = inside s m shared (InFrame n o) place (Word k) once [] has in
+      let old : ℕ = get_or m.store (address h place) 0 in
+      let here : State = going m p (w ∷ once) in
+      leads s items m shared (load_code (InFrame n o)) p at.0 (w ∷ once) (old ∷ w ∷ once) budget (rest + 1) at.1
+      (frame_load n o at.0 here
+      ∙ ap (λ (a : ℕ). load_row a at.0 here) (ap (λ (f : ℕ). f + o) (frame_at s m shared n has.at.0 has.at.1) ∙ sym has.at.2)
+      ∙ yes _ _ _ (lt-ltb (address h place) 65536 (omega (arith, low)))
+      ∙ pushes (get_or m.store (address h place) 0) at.0 here (omega (arith, ap length has.at.3)))
       (leads s items m shared Swp at.0 at.2.0 (old ∷ w ∷ once) (w ∷ old ∷ once) (rest + 1) rest at.2.1 refl
       (subst (λ (x : ℕ). Goes ctx s items (going m x (w ∷ old ∷ once)) rest) (sym at.2.2) goes)
       (omega arith))

@@ -5,13 +5,13 @@ use Rattle.std.proofs.lemmas.{Bool.{lt-ltb, ne_eqb}, Int.ints}
 use Rattle.lil_base.specs.{Words.{Whole, Cardinal, Integer, in_type, word_of}, Laws.{in_range, bounds}}
 use Rattle.lil_base.specs.declared.fault.TrapKind.TheVariants as trap
 use Rattle.lil_resolved.specs.Kinds.{Objects, Kind, OfPointer, base_of, is_base, takes_value, compared_as, least, greatest, nat_of, numbers, position, Scalar, ToObject, Nil, within, scalar_word, ordinal_of, Shape, Absent, Word, Row, words, is_there, part_at, offset, shape_by, shape_at, element_of}
-use Rattle.lil_resolved.specs.{Resolved.{Designator, Variable, Held, Field, Element, Follow, Expression, shape_of}, Sizes.place_depth}
-use Rattle.lil_meaning.specs.{Items.{Global, Object, Place, object_place, part_of, got, Scalars, Places, Part, IndexBy, IndexAt, Pointed, Item, Value, PlaceOf, Fill, Going, Source}, Steps.{current, owner_of, held_at, pointed, trapped, with_items}}
+use Rattle.lil_resolved.specs.{Resolved.{Named, variable_at, Designator, Variable, Held, Field, Element, Follow, Expression, shape_of}, Sizes.place_depth}
+use Rattle.lil_meaning.specs.{Items.{Object, Place, object_place, part_of, got, Scalars, Places, Part, IndexBy, IndexAt, Pointed, Item, Value, PlaceOf, Fill, Going, Source}, Steps.{found_at, pointed, trapped, with_items}}
 use Rattle.lil_asm.specs.declared.instr.Instr.TheVariants.{Llw, Nlt, Ixc}
 use Rattle.lil_mcode.specs.{declared.machine.Event.{Event, TheVariants.Went}, Control.above, Table.{State, going, on_two, push_row, element_row}}
-use Rattle.lil_table.specs.Rows.{cut, InData, OnTop, offset_in, access_of, load_code}
-use Rattle.lil_match.specs.{Goes.{Shared, Goes, Lands}, Running.running, Parts.{yes, no}, Homes.{word_for, Refers, plain_word, takes_plain, address, shape_there, part_there}, Waits.{Setting, frame_of, laid_out, Quiet, ValueOf, AtPlace, Around, Reach, Rows, HasPlace, Designates, Waiting}, Orders.{instr_within, instrs_order, expression_stands}}
-use Rattle.lil_match.specs.{Ranges.{has, fits_has, has_type, has_base, takes_part, least_base}, Arithmetic.{word_is, above_more}, Kept.{own_low, own_read}, Steps.{closed, held_here, variable_here, advances, at_step, at_once, pushes, lands_on, goes_none, goes_one, goes_after, operand_exact, located_goes}}
+use Rattle.lil_table.specs.Rows.{cut, OnTop, offset_at, offset_in, access_of, load_code}
+use Rattle.lil_match.specs.{Goes.{Shared, Goes, Lands}, Running.running, Parts.{yes, no}, Homes.{word_for, Refers, plain_word, takes_plain, address, shape_there, part_there}, Waits.{stutter, Setting, frame_of, laid_out, Quiet, ValueOf, AtPlace, Around, Reach, Rows, HasPlace, Designates, Waiting}, Orders.{instr_within, instrs_order, expression_stands}}
+use Rattle.lil_match.specs.{Ranges.{has, fits_has, has_type, has_base, takes_part, least_base}, Arithmetic.{word_is, above_more}, Kept.{own_low, own_read}, Variables.variable_here, Steps.{closed, held_here, advances, at_step, at_once, pushes, lands_on, goes_none, goes_one, goes_after, operand_exact, located_goes}}
 use Rattle.lil_laws_place.specs.Codes.{inside, part_has, addressed, loads, trap_goes, tested}
 
 pub place_some : (d : Designator) → 1 ≤ place_depth d
@@ -60,22 +60,24 @@ module _ (ctx : Setting) where
     abbrev Rest : Reach
     Rest = Rows ctx k
 
-    pub variable_goes : (x : ℕ) → Waiting ctx (PlaceOf (Variable x)) Rest Quiet m.place m.stack c a → Goes ctx s (PlaceOf (Variable x) ∷ k) m (c + 32)
-    variable_goes x row =
+    pub variable_goes : (v : Named) → Waiting ctx (PlaceOf (Variable v)) Rest Quiet m.place m.stack c a → Goes ctx s (PlaceOf (Variable v) ∷ k) m (c + 32)
+    variable_goes v row =
         let named = row.part.here in
-        let now : Place = record { root = Global (owner_of (slice_get s.activations (current k))) x; path = [] } in
-        let at : slice_get l.offsets x ≡ Some (offset_in (slice_get l.offsets x)) = named.at ∙ ap Some (sym (ap offset_in named.at)) in
-        let typed : slice_get l.scope.variables x ≡ Some (shape_at l.scope.variables x) = named.typed ∙ ap Some (sym (ap shape_by named.typed)) in
-        let known : HasPlace ctx (InData (offset_in (slice_get l.offsets x))) now (shape_at l.scope.variables x) m.stack m.stack =
-        variable_here ctx s k m shared x (offset_in (slice_get l.offsets x)) (shape_at l.scope.variables x) (closed ctx k _ _ _ _ _ row.then) at typed (ap is_there (ap shape_by named.typed) ∙ named.there) m.stack in
-        goes_none ctx s (PlaceOf (Variable x) ∷ k) m 32 c
-        (lands_on ctx s m shared (Value (Places now) ∷ k) m.place m.stack c a
+        let items : List Item = PlaceOf (Variable v) ∷ k in
+        let now : Source = record s { items = items; phase = Going } in
+        let o : ℕ = offset_in (offset_at l v) in
+        let at : offset_at l v ≡ Some o = named.at ∙ ap Some (sym (ap offset_in named.at)) in
+        let typed : variable_at l.scope v ≡ Some (shape_by (variable_at l.scope v)) = named.typed ∙ ap Some (sym (ap shape_by named.typed)) in
+        let y = variable_here ctx now m shared (closed ctx k _ _ _ _ _ row.then) o (shape_by (variable_at l.scope v)) (ap is_there (ap shape_by named.typed) ∙ named.there) m.stack v at typed in
+        goes_none ctx s items m 32 c
+        (subst (λ (o : Option Place). Lands ctx (found_at o k now).phase (found_at o k now) (running m s.world) c) (sym y.found)
+        (lands_on ctx s m shared (Value (Places y.place) ∷ k) m.place m.stack c a
         (at_once ctx _ Quiet m.place m.stack c a
         (record {
-          part = record { of = Variable x; below = m.stack; has = known };
-          then = subst (λ (q : ℕ). Rest (AtPlace (Variable x)) q m.stack c a) (sym named.stays) row.then;
-        })))
-        (omega arith)
+          part = record { of = Variable v; below = m.stack; has = y.has };
+          then = subst (λ (q : ℕ). Rest (AtPlace (Variable v)) q m.stack c a) (sym named.stays) row.then;
+        }))))
+        (subst (λ (o : Option Place). stutter (found_at o k now).items < stutter items) (sym y.found) (omega arith))
 
     -- the record of a WITH: the word of the frame that has its address is loaded
     pub held_goes : (w : ℕ) → Waiting ctx (PlaceOf (Held w)) Rest Quiet m.place m.stack c a → Goes ctx s (PlaceOf (Held w) ∷ k) m (c + 32)
@@ -91,10 +93,10 @@ module _ (ctx : Setting) where
         goes_one ctx s (PlaceOf (Held w) ∷ k) m 31 c (running machine s.world)
         (advances m s.world _ (
         at_step ctx m shared.program (Llw r.word) row.part.end r.load
-        ∙ yes _ _ _ (lt-ltb (m.frame + r.word) 65536 (own_low ctx s m shared r.word 0 y.low))
-        ∙ ap (λ (x : ℕ). push_row x row.part.end m) (own_read ctx s m shared r.word 0 y.low ∙ y.address)
+        ∙ yes _ _ _ (lt-ltb (m.frame + r.word) 65536 (own_low ctx s m shared r.word 0 y.free y.low))
+        ∙ ap (λ (x : ℕ). push_row x row.part.end m) (own_read ctx s m shared r.word 0 y.free y.low ∙ y.address)
         ∙ pushes (address h found.place) row.part.end m (omega (arith, row.part.shallow))))
-        (subst (λ (o : Option Place). Lands ctx (held_at o k now).phase (held_at o k now) (running machine s.world) c) (sym found.found)
+        (subst (λ (o : Option Place). Lands ctx (found_at o k now).phase (found_at o k now) (running machine s.world) c) (sym found.found)
         (lands_on ctx s m shared (Value (Places found.place) ∷ k) row.part.end stack c a
         (at_once ctx _ Quiet row.part.end stack c a
         (record {
@@ -121,7 +123,7 @@ module _ (ctx : Setting) where
         (lands_on ctx s m shared (Value (Places (part_of place i)) ∷ k) m.place m.stack c a
         (at_once ctx _ Quiet m.place m.stack c a
         (record {
-          part = record { of = Field d i; below = below; has = part_has ctx (access_of l d) place (shape_of l.scope d) m.stack below is i row.part };
+          part = record { of = Field d i; below = below; has = part_has ctx s m shared (access_of l d) place (shape_of l.scope d) m.stack below is i row.part };
           then = row.then;
         })))
         (omega arith)

@@ -257,6 +257,7 @@ module _ (ctx : Setting) where
                   shadow = λ i. refl;
                   mem = mem;
                   heap = heap;
+                  unborn = shared.unborn;
                 })
                 becomes
                 (subst (λ (q : ℕ). Rows ctx k Quiet q [] c a) (sym row.part.amid.here.by.2) row.then)

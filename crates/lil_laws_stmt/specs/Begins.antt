@@ -3,7 +3,7 @@ use Rattle.std.proofs.Common.{◌≡◌, ℕ, zero, suc, ◌+◌, ℤ, ◌+ℤ�
 use Rattle.std.proofs.lemmas.Bool.{lt-ltb, false_from_ne_true, true≢false}
 use Rattle.lil_base.specs.declared.fault.TrapKind.TheVariants as trap
 use Rattle.lil_base.specs.Words.{word_of}
-use Rattle.lil_resolved.specs.{Kinds.{Kind, base_of, compared_as, covers, outside_turns, Scalar}, Resolved.Statements}
+use Rattle.lil_resolved.specs.{Kinds.{Kind, base_of, compared_as, covers, outside_turns, Scalar}, Resolved.{Named, Statements}}
 use Rattle.lil_meaning.specs.{Items.{Turns, Item, Perform, Going, Source}, Steps.{next, turned_with, turns}}
 use Rattle.lil_asm.specs.declared.instr.Instr.{Instr, TheVariants.{Liw, Dup, Drp, Swp, Rgc, Lsi, Jmp, Jpf}}
 use Rattle.lil_mcode.specs.{declared.machine.Event.{Event, TheVariants.{Went, Trap}}, Table.{State, act, truth, going}}
@@ -18,7 +18,7 @@ module _ (ctx : Setting) where
 
   -- ---- a start of another type of whole numbers
   module _ (s : Source) (k : List Item) (m : State) (c : ℕ) (a : Around) (shared : Shared ctx s m)
-      (x : ℕ) (kind : Kind) (first step : ℤ) (left : ℕ) (body : Statements) (row : BeginWaits ctx x kind first step left body (Rows ctx k) Quiet m.place m.stack c a) where
+      (x : Named) (kind : Kind) (first step : ℤ) (left : ℕ) (body : Statements) (row : BeginWaits ctx x kind first step left body (Rows ctx k) Quiet m.place m.stack c a) where
     abbrev here : List Item
     here = Perform (Turns x kind first step left body) ∷ k
 

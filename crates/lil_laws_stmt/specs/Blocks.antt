@@ -3,13 +3,13 @@ use Rattle.std.proofs.Common.{◌≡◌, ℕ, ◌+◌, ◌-◌, ◌<◌, ◌≤�
 use Rattle.std.proofs.lemmas.Bool.{lt-ltb, le-ltb, cases_lt}
 use Rattle.lil_base.specs.declared.fault.LimitKind.TheVariants as limit
 use Rattle.lil_resolved.specs.Kinds.{Shape}
-use Rattle.lil_meaning.specs.{Items.{Root, Place, Cells, Item, Going, Workspace, Source, heap_words}, Need.chain_of, Steps.next}
+use Rattle.lil_meaning.specs.{Items.{Root, Global, Place, Cells, Item, Going, Workspace, Source, heap_words}, Need.chain_of, Steps.next}
 use Rattle.lil_asm.specs.declared.instr.Instr.TheVariants.{Alc}
 use Rattle.lil_mcode.specs.{declared.machine.Event.{Event, TheVariants.Went}, Table.{State, stack_of, going, mstep, take_row}}
 use Rattle.lil_frames.specs.Words.{zeros, cleared}
 use Rattle.lil_table.specs.Rows.{IsAt}
-use Rattle.lil_match.specs.{Goes.{OwnWords, IsHeap, Shared, Lands, Goes}, Running.running, Parts.{yes, no}, Splices.{spliced_length, spliced_before, spliced_there, spliced_after, zeros_length, zeros_word}, Homes.{Fixed, Free, Home, Extends, lives, address, Mem}, Costs.{cost_of, top_low}, Waits.{Setting, frame_of, moved, Quiet, Around, Rows}}
-use Rattle.lil_match.specs.{Known.{known_kept, each_known, each_comes}, Kept.{first_words, stack_above, stands_kept, chained_kept, rows_kept}, Steps.{advances, at_step, rows_ahead, goes_one_in, goes_full}}
+use Rattle.lil_match.specs.{Goes.{OwnWords, IsHeap, IsUnborn, Shared, Lands, Goes}, Running.running, Parts.{yes, no}, Splices.{spliced_length, spliced_before, spliced_there, spliced_after, zeros_length, zeros_word}, Homes.{Fixed, Free, Home, Extends, lives, address, Mem}, Costs.{cost_of, top_low}, Waits.{frames_of, Setting, frame_of, moved, Quiet, Around, Rows}}
+use Rattle.lil_match.specs.{Known.{known_kept, each_known, each_comes, each_local}, Kept.{first_words, stack_above, stands_kept, chained_kept, rows_kept}, Steps.{advances, at_step, rows_ahead, goes_one_in, goes_full}}
 use Rattle.lil_laws_stmt.specs.Painting.{free_fixed}
 
 module _ (ctx : Setting) where
@@ -90,6 +90,7 @@ module _ (ctx : Setting) where
         pub shadow : (i : ℕ) → x.shadow i ≡ h.shadow i
         pub mem : Mem x cells (set (cleared m.store (ctx.stack.limit - words) ctx.stack.limit) (address h place) first)
         pub heap : IsHeap x.base x.shape x.workspaces objects workspaces lower
+        pub unborn : IsUnborn x.shape ctx.activations
 
       module _ (x : Home) (cells : Cells) (objects : List Shape) (workspaces : List Workspace) (filled : Filled x cells objects workspaces)
           (becomes : next (ctx.library) (record s { items = items; phase = Going }) ≡ record s { items = k; cells = cells; objects = objects; workspaces = workspaces; phase = Going })
@@ -129,18 +130,21 @@ module _ (ctx : Setting) where
                 shared = record {
                   mem = filled.mem;
                   heap = filled.heap;
+                  unborn = filled.unborn;
                   program = record { table_is = shared.program.table_is; known = shared.program.known; piece = shared.program.piece; running_is = shared.program.running_is; marked_is = shared.program.marked_is };
                   standing = record {
                     frame_is = g.frame_is;
                     base_is = g.base_is;
                     limit_is = ap (λ (i : ℕ). i - (words + 2)) g.limit_is;
                     bodies_are = g.bodies_are;
-                    known = known_kept ctx.library ctx.loaded ctx.table ctx.activations ctx.activations (λ i b e. e) h x filled.base filled.shape filled.targets fixed_kept st.frame g.known;
-                    callers = each_known ctx.library ctx.loaded ctx.table ctx.activations ctx.activations (λ i b e. e) h x filled.base filled.shape filled.targets fixed_kept st.callers g.callers;
-                    comes = each_comes ctx.library ctx.loaded ctx.table ctx.activations ctx.activations (λ i b e. e) h x filled.base filled.shape filled.targets fixed_kept st.base st.bodies g.comes;
+                    known = known_kept ctx.library ctx.loaded ctx.table ctx.activations ctx.activations (λ i b e. e) h x (λ n y. filled.base (Global n y) refl) (λ n y. filled.shape (Global n y) refl) filled.targets fixed_kept st.frame g.known;
+                    callers = each_known ctx.library ctx.loaded ctx.table ctx.activations ctx.activations (λ i b e. e) h x (λ n y. filled.base (Global n y) refl) (λ n y. filled.shape (Global n y) refl) filled.targets fixed_kept st.callers g.callers;
+                    comes = each_comes ctx.library ctx.loaded ctx.table ctx.activations ctx.activations (λ i b e. e) h x (λ n y. filled.base (Global n y) refl) (λ n y. filled.shape (Global n y) refl) filled.targets fixed_kept st.base st.bodies g.comes;
                     stands = stands_kept h.owner x.owner st.base m.top st.frame st.callers (λ i from less. filled.owner i (inl (omega (arith, less, roomy)))) g.stands;
                     links = chained_kept h.shadow x.shadow ctx.activations ctx.activations (λ i b e. e) h.owner st.base m.top st.frame st.callers g.stands (λ i from below. filled.shadow i) g.links;
+                    locals = each_local ctx.activations ctx.activations (λ i b e. e) h x (frames_of ctx.stack) (λ r seen. filled.base r) (λ r seen. filled.shape r) g.locals;
                     room = λ i from less. filled.owner i (inl (omega (arith, less, roomy))) ∙ g.room i from (omega (arith, less, roomy));
+                    based = g.based;
                     low = omega (arith, roomy);
                     high = omega (arith, g.high);
                   };
@@ -160,11 +164,11 @@ module _ (ctx : Setting) where
             (record {
               owner = λ i e. filled.owner i (⊎_elim (λ (z : i < st.base). inl (omega (arith, z, based, roomy))) (λ (z : st.limit ≤ i). inr (omega (arith, z, roomy), z)) e);
               shadow = λ i e. filled.shadow i;
-              base = filled.base;
-              shape = filled.shape;
+              base = λ r beyond. filled.base r;
+              shape = λ r beyond. filled.shape r;
               targets = filled.targets;
               workspaces = filled.spaces;
               fixed = fixed_kept;
             })
-            (refl, omega arith)
+            (record { base = refl; limit = omega arith; frames = λ i seen. inl seen })
             (omega arith)

@@ -1,14 +1,15 @@
 -- The end of a body that others follow: the next one begins.
 use Rattle.std.proofs.Common.{◌≡◌, ℕ, ◌+◌, ◌-◌, ◌<◌, ◌≤◌, ◌⊎◌, inl, inr, Some, List, [], ◌∷◌, length, map, get_or, refl, sym, ap, ◌∙◌, subst, ⊎_elim, arith, eq-eqb}
+use Rattle.std.specs.List.{list_any}
 use Rattle.std.proofs.lemmas.{Bool.{le-ltb, lt-ltb, cases_lt}, Option.slice_get_within}
 use Rattle.lil_base.specs.declared.fault.LimitKind.TheVariants as limit
 use Rattle.lil_meaning.specs.{Items.{End, Item, Perform, Activation, Going, Source}, Need.chain}
 use Rattle.lil_asm.specs.declared.instr.Instr.TheVariants.{Ent, Rtn}
 use Rattle.lil_mcode.specs.{declared.machine.Event.TheVariants.Went, Table.{Module, State, stack_of, module_at, mstep, end_row, body_row, begun_body, enter_row}}
 use Rattle.lil_frames.specs.Words.{zeros, cleared}
-use Rattle.lil_table.specs.Rows.{IsAt}
+use Rattle.lil_table.specs.Rows.{IsAt, framed}
 use Rattle.lil_match.specs.{Goes.{OwnWords, Linked, Comes, Shared, IsShort, Goes, number_of}, Running.{running, advanced}, Parts.{yes, no}, Homes.{Own, Fixed, Free, Home, extends_self, Mem, Ours, Stays, Turns, mem_turned, fixed_turned}, Splices.{spliced_length, spliced_before, spliced_after, zeros_length}, Costs.{known_costs, items_cost}}
-use Rattle.lil_match.specs.{Waits.{Quiet, outside, Frame, Setting, at_home, with_frames, RowsOf, NextBody}, Known.{known_kept, each_comes}, Kept.{all_above, rows_kept}, Steps.{advances, at_step, rows_ahead, goes_one_in, goes_full, goes_after}}
+use Rattle.lil_match.specs.{Waits.{Quiet, own_words, is_of, outside, Frame, Setting, at_home, with_frames, RowsOf, NextBody}, Known.{or_later, known_kept, each_comes, each_local}, Kept.{all_above, rows_kept}, Steps.{advances, at_step, rows_ahead, goes_one_in, goes_full, goes_after}}
 use Rattle.lil_laws_stmt.specs.Painting.{own_free, painted, painted_there, painted_beside, Side, Before, Between, Behind', side}
 
 module _ (ctx : Setting) (f b : Frame) (bs : List Frame) where
@@ -56,9 +57,9 @@ module _ (ctx : Setting) (f b : Frame) (bs : List Frame) where
     leaves mark_room = advances m s.world _ (leaving ∙ no _ _ _ (le-ltb m.limit (m.base + 4) (omega (arith, shared.standing.limit_is, shared.standing.base_is, mark_room))))
 
     -- the row of ENT
-    entering : mstep begun ≡ enter_row b.layout.frame next.start begun
+    entering : mstep begun ≡ enter_row (framed b.layout.frame) next.start begun
     entering =
-        at_step beginning begun (record { table_is = shared.program.table_is; known = comes.known.known; piece = comes.known.piece; running_is = refl; marked_is = shared.program.marked_is }) (Ent b.layout.frame) next.start next.enter
+        at_step beginning begun (record { table_is = shared.program.table_is; known = comes.known.known; piece = comes.known.piece; running_is = refl; marked_is = shared.program.marked_is }) (Ent (framed b.layout.frame)) next.start next.enter
 
     -- ---- without room
     pub goes_short : ctx.stack.limit < b.at + b.layout.frame → Goes ending s (Perform (End n) ∷ k) m (c + 32)
@@ -69,8 +70,8 @@ module _ (ctx : Setting) (f b : Frame) (bs : List Frame) where
         goes_after ending s (Perform (End n) ∷ k) m begun (c + 32) (c + 1) (leaves (omega (arith, shared.standing.limit_is, shared.standing.base_is, some)))
         (goes_full ending s (Perform (End n) ∷ k) begun (c + 1) limit.Stack
         (entering
-        ∙ no _ _ _ (le-ltb (m.base + b.layout.frame) (m.base + 4) (omega (arith, comes.mark)))
-        ∙ yes _ _ _ (lt-ltb m.limit (m.base + b.layout.frame) (omega (arith, shared.standing.limit_is, shared.standing.base_is, comes.at, less))))
+        ∙ no _ _ _ (le-ltb (m.base + framed b.layout.frame) (m.base + 4) (omega (arith, comes.mark)))
+        ∙ yes _ _ _ (lt-ltb m.limit (m.base + framed b.layout.frame) (omega (arith, shared.standing.limit_is, shared.standing.base_is, comes.at, less, shared.standing.high, shared.standing.based))))
         (short, more) (omega arith))
         (omega arith)) (cases_lt m.limit (m.base + 4))
       where
@@ -78,7 +79,7 @@ module _ (ctx : Setting) (f b : Frame) (bs : List Frame) where
         calls =
             ap (λ (l : List ℕ). chain ctx.library l s.activations k) shared.loaded_are
             ∙ ap (λ (acts : List Activation). chain ctx.library ctx.loaded acts k) shared.activations_are
-            ∙ items_cost beginning k Quiet next.start [] c outside next.then (known_costs ctx.library ctx.loaded ctx.table ctx.activations ctx.home b comes.known, tt)
+            ∙ items_cost beginning k Quiet next.start [] c (outside b) next.then (known_costs ctx.library ctx.loaded ctx.table ctx.activations ctx.home b comes.known, tt)
 
         short : IsShort ctx.library ctx.stack.base (record s { items = k; phase = Going })
         short = record { less = omega (arith, less, shared.heap.rest, comes.at, calls) }
@@ -120,11 +121,15 @@ module _ (ctx : Setting) (f b : Frame) (bs : List Frame) where
       shadow_beside : (a : ℕ) → (a < ctx.stack.base) ⊎ ((ctx.stack.base ≤ a) × (ctx.stack.base + b.layout.frame ≤ a)) → x.shadow a ≡ ctx.home.shadow a
       shadow_beside a o = painted_beside ctx.home.shadow ctx.stack.base (ctx.stack.base + b.layout.frame) (λ a. get_or entered.store a 0) a o
 
+      -- a body has no variables
+      free : (i : ℕ) → (i < 4) ⊎ (4 + own_words f ≤ i)
+      free i = ⊎_elim (λ (z : i < 4). inl z) (λ (z : 4 ≤ i). inr (omega (arith, z, next.plain))) (cases_lt i 4)
+
       -- all words of the stack are ours
       was_ours : (a : ℕ) → ctx.stack.base ≤ a → a < ctx.stack.limit → Ours (ctx.home.owner a)
       was_ours a from below =
           ⊎_elim (λ (l : a < m.top).
-          inl (ap ctx.home.owner (let e : a ≡ f.at + (a - f.at) = omega (arith, from, shared.standing.stands.1) in e) ∙ words.own (a - f.at) (omega (arith, from, l, shared.standing.stands.1))))
+          inl (ap ctx.home.owner (let e : a ≡ f.at + (a - f.at) = omega (arith, from, shared.standing.stands.1) in e) ∙ words.own (a - f.at) (free (a - f.at)) (omega (arith, from, l, shared.standing.stands.1))))
           (λ (g : m.top ≤ a). inr (ctx.stack.base, shared.standing.room a g below)) (cases_lt a m.top)
 
       based : (m.base ≡ ctx.stack.base) × (m.base + b.layout.frame < 65536)
@@ -162,10 +167,14 @@ module _ (ctx : Setting) (f b : Frame) (bs : List Frame) where
       fixed_kept : (a : ℕ) → ctx.home.owner a ≡ Fixed → (x.owner a ≡ Fixed) × (x.shadow a ≡ ctx.home.shadow a)
       fixed_kept = fixed_turned h m.store entered.store x.owner x.shadow h.workspaces each
 
+      exact : framed b.layout.frame ≡ b.layout.frame
+      exact = omega (arith, room, shared.standing.high)
+
       enters : advanced (running begun s.world) ≡ running entered s.world
       enters =
           advances begun s.world (Went, entered) (
           entering
+          ∙ ap (λ (n : ℕ). enter_row n next.start begun) exact
           ∙ no _ _ _ (le-ltb (m.base + b.layout.frame) (m.base + 4) (omega (arith, comes.mark)))
           ∙ no _ _ _ (le-ltb m.limit (m.base + b.layout.frame) (omega (arith, shared.standing.limit_is, shared.standing.base_is, comes.at, room)))
           )
@@ -182,18 +191,21 @@ module _ (ctx : Setting) (f b : Frame) (bs : List Frame) where
               shared = record {
                 mem = mem;
                 heap = shared.heap;
+                unborn = shared.unborn;
                 program = record { table_is = shared.program.table_is; known = comes.known.known; piece = comes.known.piece; running_is = refl; marked_is = shared.program.marked_is };
                 standing = record {
                   frame_is = g.base_is ∙ sym comes.at;
                   base_is = g.base_is;
                   limit_is = g.limit_is;
                   bodies_are = refl;
-                  known = known_kept ctx.library ctx.loaded ctx.table ctx.activations ctx.activations (λ i b e. e) h x (λ r e. refl) (λ r e. refl) refl fixed_kept b comes.known;
+                  known = known_kept ctx.library ctx.loaded ctx.table ctx.activations ctx.activations (λ i b e. e) h x (λ n y. refl) (λ n y. refl) refl fixed_kept b comes.known;
                   callers = tt;
-                  comes = each_comes ctx.library ctx.loaded ctx.table ctx.activations ctx.activations (λ i b e. e) h x (λ r e. refl) (λ r e. refl) refl fixed_kept ctx.stack.base bs g.comes.1;
-                  stands = (record { mark = comes.mark; below = omega (arith, comes.at, g.base_is); most = omega (arith, comes.at, g.base_is); own = λ i l. owner_own (b.at + i) (omega (arith, comes.at)) (omega (arith, l, g.base_is)) }, comes.at);
-                  links = subst (λ (es : List ℕ). Linked x.shadow ctx.activations b.activation b.at es []) (sym comes.chain) tt;
+                  comes = each_comes ctx.library ctx.loaded ctx.table ctx.activations ctx.activations (λ i b e. e) h x (λ n y. refl) (λ n y. refl) refl fixed_kept ctx.stack.base bs g.comes.1;
+                  stands = (record { mark = omega (arith, comes.mark, next.bare); below = omega (arith, comes.at, g.base_is); most = omega (arith, comes.at, g.base_is); own = λ i z l. owner_own (b.at + i) (omega (arith, comes.at)) (omega (arith, l, g.base_is)); mine = λ i l. inl (owner_own (b.at + i) (omega (arith, comes.at)) (omega (arith, l, g.base_is))) }, comes.at);
+                  links = subst (λ (es : List ℕ). Linked x.shadow ctx.activations b.activation b.number b.at b.display es []) (sym comes.chain) comes.display;
+                  locals = each_local ctx.activations ctx.activations (λ i b e. e) h x (b ∷ bs) (λ r s e. refl) (λ r s e. refl) g.locals.2;
                   room = λ a from below. owner_free a (omega (arith, from, g.base_is)) below;
+                  based = g.based;
                   low = omega (arith, g.base_is, comes.at, room);
                   high = g.high;
                 };
@@ -203,22 +215,22 @@ module _ (ctx : Setting) (f b : Frame) (bs : List Frame) where
                 parked_are = shared.parked_are;
                 kept_are = shared.kept_are;
               };
-              around = outside;
-              ahead = rows_ahead (at_home beginning x) k next.start [] c outside
-                  (rows_kept k beginning x ctx.stack.limit (base + 4) (omega (arith, comes.at), (all_above ending (stack_of m) g).1) Quiet next.start [] c outside
-                  (record { shadow = λ a from below. absurd (omega (arith, from, below, comes.at)); base = λ r e l. refl; shape = λ r e l. refl; targets = refl; workspaces = extends_self h.workspaces })
+              around = outside b;
+              ahead = rows_ahead (at_home beginning x) k next.start [] c (outside b)
+                  (rows_kept k beginning x ctx.stack.limit (base + 4) (omega (arith, comes.at), (all_above ending (stack_of m) g).1) Quiet next.start [] c (outside b)
+                  (record { shadow = λ a from below. absurd (omega (arith, from, below, comes.at, next.bare)); base = λ r e l. refl; shape = λ r e l. refl; targets = refl; workspaces = extends_self h.workspaces })
                   next.then);
             };
           })
           (record {
             owner = λ a o. owner_beside a o;
             shadow = λ a o. shadow_beside a (⊎_elim (λ (l : a < ctx.stack.base). inl l) (λ (g : ctx.stack.limit ≤ a). inr (omega (arith, g, comes.at, room), omega (arith, g, comes.at, room))) o);
-            base = λ r e. refl;
-            shape = λ r e. refl;
+            base = λ r b e. refl;
+            shape = λ r b e. refl;
             targets = refl;
             workspaces = extends_self h.workspaces;
             fixed = fixed_kept;
           })
-          (refl, omega arith)
+          (record { base = refl; limit = omega arith; frames = λ a seen. inl (or_later (is_of a f) (list_any (is_of a) (b ∷ bs)) seen) })
           (omega arith))
           (omega arith)

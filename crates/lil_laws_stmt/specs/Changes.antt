@@ -6,7 +6,7 @@ use Rattle.lil_resolved.specs.{Kinds.{Kind, OfWhole, base_of, is_plain, Scalar, 
 use Rattle.lil_meaning.specs.{Items.{Place, got, Scalars, Places, ChangeBy, ChangeAt, Do, Item, Value, Fill, Perform, Going, Source}, Steps.{current, whole_of, changed, value_of, valued, stored_with}}
 use Rattle.lil_asm.specs.declared.instr.Instr.{Instr, TheVariants.{Adc, Sbc, Adi, Sbi}}
 use Rattle.lil_mcode.specs.Table.{Module, State, mstep, act, going, result_row, two_row}
-use Rattle.lil_table.specs.Rows.{IsAt, InstrsAt, whole_code, Access, access_of, InData, OnTop, Behind, readied, store_code, under_code, change_operator, change_code, test_code}
+use Rattle.lil_table.specs.Rows.{IsAt, InstrsAt, whole_code, Access, access_of, InData, InFrame, OnTop, Behind, readied, store_code, under_code, change_operator, change_code, test_code}
 use Rattle.lil_match.specs.{Homes.{word_for, base_plain, plain_word, plain_refers, address, IsWord}, Goes.{Shared, Goes}, Waits.{Setting, frame_of, laid_out, Quiet, ValueOf, AtPlace, Around, Reach, Rows, Reaches, doubled, HasPlace, Designates, placed, Waiting}, Orders.instrs_within, Arithmetic.{word_is, reads_ordinal, reads, sum_fits, difference_fits}}
 use Rattle.lil_match.specs.{Ranges.{has, value_is, value_none, value_fits, number_is}, Steps.{closed, advances, at_step, goes_after, operand_exact, located_goes}}
 use Rattle.lil_laws_place.specs.Codes.{made_ready, readied_twice, twice_words, kept_twice, brings_under, trap_goes, number_tested, stored_goes}
@@ -44,6 +44,7 @@ split code (i ∷ is) js p q h = let more = split code is js h.0 q h.2 in (more.
 
 some_change : (down : Bool) (k : Kind) (b : Access) → 0 < length (change_code down k b)
 some_change down k (InData o) = omega arith
+some_change down k (InFrame n o) = omega arith
 some_change down k OnTop = omega arith
 some_change down k (Behind o) = omega arith
 
@@ -74,7 +75,7 @@ module _ (ctx : Setting) where
         made_ready ctx s items m shared b place (shape_of l.scope d) m.stack below has m.place r.start (c + 32) (c + 1) (rw amid.at r.target.ready)
         (λ once there.
         let here : HasPlace ctx (readied b) place (Word to) once [] =
-        record { seen = there.seen; living = there.living ∙ r.target.scalar.shape; there = refl; at = subst (λ (x : List ℕ). Reaches own.base (readied b) (address h place) once x) row.part.empty there.at } in
+        record { seen = there.seen; living = there.living ∙ r.target.scalar.shape; there = refl; at = subst (λ (x : List ℕ). Reaches own.base ctx.stack.frame.display (readied b) (address h place) once x) row.part.empty there.at } in
         kept_twice ctx s items m shared (readied b) place (Word to) once here (readied_twice ctx b) r.start r.kept (c + 1) c r.again
         (operand_exact ctx s k (going m r.kept (doubled (readied b) once)) c a shared items e (ChangeAt down place to) refl (omega arith) r.middle r.value.value
         (omega (arith, r.value.shallow, twice_words ctx (readied b) place (Word to) once here))

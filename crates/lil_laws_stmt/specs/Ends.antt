@@ -38,8 +38,8 @@ module _ (ctx : Setting) where
           (cases_lt ctx.stack.limit (b.at + b.layout.frame))
       by [] [] there last =
           goes_none (with_frames ctx ctx.stack.frame [] []) s (Perform (End n) ∷ k) m 32 c
-          (lands_on (with_frames ctx ctx.stack.frame [] []) s m there k m.place m.stack c outside
-          (subst (λ (x : List Item). Ahead (with_frames ctx ctx.stack.frame [] []) x Quiet m.place m.stack c outside) (sym last)
+          (lands_on (with_frames ctx ctx.stack.frame [] []) s m there k m.place m.stack c (outside ctx.stack.frame)
+          (subst (λ (x : List Item). Ahead (with_frames ctx ctx.stack.frame [] []) x Quiet m.place m.stack c (outside ctx.stack.frame)) (sym last)
           (record { empty = empty; callers = refl; bodies = refl; end = end; leave = leave })))
           (omega arith)
 
@@ -98,7 +98,7 @@ sooner ctx rest c later le r = record { later = r.later; less = omega (arith, le
 -- it is the same inside of a WITH
 behind_inside : (before : Setting) (t : Shape) (n : ℕ) (k : List Item) (c : ℕ) (gs bs : List Frame) → Behind before k (RowsOf k) c gs bs → Behind (inside_with before t n) k (RowsOf k) c gs bs
 behind_inside before t n k c (g ∷ gs) bs b = record { before = b.before; called = b.called; outer = b.outer; under = b.under; frame = b.frame; place = b.place; module' = b.module'; then = b.then }
-behind_inside before t n k c [] (b ∷ bs) x = record { body = x.body; low = x.low; start = x.start; enter = x.enter; then = x.then }
+behind_inside before t n k c [] (b ∷ bs) x = record { body = x.body; low = x.low; plain = x.plain; bare = x.bare; start = x.start; enter = x.enter; then = x.then }
 behind_inside before t n k c [] [] last = last
 
 returns_inside : (ctx before : Setting) (t : Shape) (n : ℕ) (rest : List Item) (c : ℕ) → ctx ≡ inside_with before t n → Returns before rest c → Returns ctx rest c

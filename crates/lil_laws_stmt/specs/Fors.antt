@@ -5,15 +5,16 @@ use Rattle.std.proofs.lemmas.Bool.{lt-ltb, ne_eqb, and_from, Decides.nat_tests}
 use Rattle.lil_base.specs.declared.fault.TrapKind.TheVariants as trap
 use Rattle.lil_base.specs.Words.{Whole, Cardinal, Integer, word_of}
 use Rattle.lil_resolved.specs.Kinds as kinds
-use Rattle.lil_resolved.specs.{Kinds.{Kind, base_of, is_plain, is_base, compared_as, covers, outside_turns, Scalar, within, scalar_word, scalar_of, ordinal_of, Word}, Resolved.{Expression, For, Statements, kind_of}}
-use Rattle.lil_meaning.specs.{Items.{Global, Place, stored, alone, Scalars, StartOf, LimitOf, Do, Turns, Item, Value, Fill, Perform, doing, Going, Source}, Steps.{current, owner_of, turned_with, turns}}
-use Rattle.lil_asm.specs.declared.instr.Instr.{Instr, TheVariants.{Liw, Swp, Llw, Sgw, Fri, Frn}}
+use Rattle.lil_resolved.specs.{Kinds.{Kind, base_of, is_plain, is_base, compared_as, covers, outside_turns, Scalar, within, scalar_word, scalar_of, ordinal_of, Word}, Resolved.{Named, OfModule, OfLevel, Expression, For, Statements, kind_of}}
+use Rattle.lil_meaning.specs.{Items.{Place, stored, alone, Scalars, StartOf, LimitOf, Do, Turns, Item, Value, Fill, Perform, doing, Going, Source}, Steps.{turned_at, turned_with, turns}}
+use Rattle.lil_asm.specs.declared.instr.Instr.{Instr, TheVariants.{Liw, Swp, Llw, Fri, Frn}}
 use Rattle.lil_mcode.specs.{declared.machine.Event.{Event, TheVariants.{Went, Trap}}, Control.after_first, Table.{State, mstep, going, push_row, on_three, loop_row, begun_row, turn_row}}
-use Rattle.lil_table.specs.Rows.{InData, Layout, IsAt, InstrsAt, AlignAt, BodyAt, RoundRow, range_code, loop_place, loop_sign}
-use Rattle.lil_match.specs.{Goes.{Shared, Touches, Goes, Lands}, Running.{Run, running, react, advanced}, Parts.{yes, no}, Homes.{word_for, base_plain, takes_plain, plain_word, plain_refers, Home, Mem, scalar_owned, mem_stored, replaced, shadowed}, Arithmetic.word_is}
-use Rattle.lil_match.specs.{Ranges.{has, value_is, value_none, number_is, value_fits, fits_has, has_type, ordinal_base, ordinal_plain}, Tests.{covered, test_act}, Waits.{Setting, frame_of, laid_out, Quiet, ValueOf, Around, Reach, TurnsFit, Rows, at_home, LoopWords, NextWaits, HasPlace, Waiting}, Orders.{instr_within, expression_within}}
-use Rattle.lil_match.specs.{Steps.{inside_own, closed, variable_here, both_trap, advances, pushes, at_step, at_once, rows_ahead, lands_on, goes_none, shared_with, untouched, touched, goes_one, goes_after_in, goes_after, goes_more, operand_goes}, Kept.{shared_shadowed, touches_shadowed, rows_shadowed}}
+use Rattle.lil_table.specs.Rows.{Layout, access_at, readied, store_code, framed, IsAt, InstrsAt, AlignAt, BodyAt, RoundRow, range_code, loop_place, loop_sign}
+use Rattle.lil_match.specs.{Goes.{Shared, Touches, Goes, Lands}, Running.{Run, running, react, advanced}, Parts.{yes, no}, Homes.{word_for, address, base_plain, takes_plain, plain_word, plain_refers, Home, Mem, mem_stored, replaced, shadowed}, Arithmetic.word_is}
+use Rattle.lil_match.specs.{Ranges.{has, value_is, value_none, number_is, value_fits, fits_has, has_type, ordinal_base, ordinal_plain}, Tests.{covered, test_act}, Variables.{variable_here, framed_here}, Waits.{frames_of, own_words, Setting, frame_of, laid_out, Quiet, ValueOf, Around, Reach, TurnsFit, Rows, at_home, LoopWords, NextWaits, Waiting}, Orders.{instr_within, expression_within}}
+use Rattle.lil_match.specs.{Steps.{inside_own, closed, both_trap, advances, pushes, at_step, at_once, rows_ahead, lands_on, goes_none, shared_with, untouched, touched, goes_one, goes_after_in, goes_after, goes_more, operand_goes}, Kept.{loops_behind, shared_shadowed, touches_shadowed, rows_shadowed}}
 use Rattle.lil_match.specs.Kept as kept
+use Rattle.lil_laws_place.specs.Codes.{puts}
 use Rattle.lil_laws_stmt.specs.{Control.body_rows, ForWords.{word_small, next_word, step_some, turns_read, turns_few}}
 
 -- the word of a value says its number
@@ -28,6 +29,11 @@ sign_small : (t : Whole) → nat_lt (loop_sign t) 2 ≡ true
 sign_small Cardinal = refl
 sign_small Integer = refl
 
+-- a variable is ready for a store
+variable_ready : (v : Named) (o : ℕ) → readied (access_at v o) ≡ access_at v o
+variable_ready (OfModule x) o = refl
+variable_ready (OfLevel n x) o = refl
+
 -- where a start is brought to its limit's type lies within the code
 pub align_within : (l : Layout) (code : List ℕ) (same turns : Bool) (p start q : ℕ) → AlignAt l code same turns p start q → start < length code → p < length code
 align_within l code true turns p start q e inside = omega (arith, e, inside)
@@ -40,22 +46,22 @@ module _ (ctx : Setting) where
   open laid_out ctx use {layout as l}
 
   -- a word of the running frame
-  own_read : (s : Source) (m : State) → Shared ctx s m → (i a : ℕ) → a ≡ m.frame + i → i < l.frame → get_or m.store a 0 ≡ h.shadow (ctx.stack.frame.at + i)
-  own_read s m shared i a at less = ap (λ (n : ℕ). get_or m.store n 0) at ∙ kept.own_read ctx s m shared i 0 less
+  own_read : (s : Source) (m : State) → Shared ctx s m → (i a : ℕ) → a ≡ m.frame + i → 4 + own_words ctx.stack.frame ≤ i → i < l.frame → get_or m.store a 0 ≡ h.shadow (ctx.stack.frame.at + i)
+  own_read s m shared i a at free less = ap (λ (n : ℕ). get_or m.store n 0) at ∙ kept.own_read ctx s m shared i 0 free less
 
   -- the running frame lies in the store
-  inside : (s : Source) (m : State) → Shared ctx s m → (i : ℕ) → i < l.frame → m.frame + i < 65536
-  inside s m shared i less = kept.own_low ctx s m shared i 0 less
+  inside : (s : Source) (m : State) → Shared ctx s m → (i : ℕ) → 4 + own_words ctx.stack.frame ≤ i → i < l.frame → m.frame + i < 65536
+  inside s m shared i free less = kept.own_low ctx s m shared i 0 free less
 
   module _ (s : Source) (k : List Item) (m : State) (c : ℕ) (a : Around) (shared : Shared ctx s m) where
     abbrev Rest : Reach
     Rest = Rows ctx k
 
-    abbrev pub Turning : ℕ → Kind → ℤ → ℤ → ℕ → Statements → List Item
+    abbrev pub Turning : Named → Kind → ℤ → ℤ → ℕ → Statements → List Item
     Turning x kind z step left body = Perform (Turns x kind z step left body) ∷ k
 
-    module _ (x : ℕ) (kind : Kind) (z step : ℤ) (left : ℕ) (body : Statements)
-        (words : LoopWords ctx a.taken left (word_of step)) (now : words.now ≡ word_of z) (empty : m.stack ≡ [])
+    module _ (x : Named) (kind : Kind) (z step : ℤ) (left : ℕ) (body : Statements)
+        (words : LoopWords ctx a.taken left (word_of step)) (is_now : words.now ≡ word_of z) (empty : m.stack ≡ [])
         (fit : TurnsFit (base_of kind) z step (suc left)) (small : left < 65536) (end : ℕ)
         (round : RoundRow l piece (a.taken) x kind step (BodyAt l piece (3 + a.taken) a.exit body) m.place end) (ends : end < length piece)
         (then : Rest Quiet end [] c a) where
@@ -75,6 +81,12 @@ module _ (ctx : Setting) where
       abbrev turned_there : Option Scalar → Source
       turned_there o = turned_with library o x body (Turning x kind (z +ℤ step) step left body) (record s { items = items; phase = Going })
 
+      abbrev now : Source
+      now = record s { items = items; phase = Going }
+
+      abbrev stored_there : Scalar → Option Place → Source
+      stored_there v o = turned_at o v body (Turning x kind (z +ℤ step) step left body) (record s { items = items; phase = Going })
+
       -- the word of the turn's number is on the expression stack
       abbrev holding : ℕ → State
       holding q = going m q (word_of z ∷ m.stack)
@@ -87,18 +99,16 @@ module _ (ctx : Setting) where
           let plain : is_plain kind ≡ true = sym (base_plain kind) ∙ ordinal_plain base round.known.base in
           let word : word_for h v ≡ word_of z = plain_word h kind v plain fits ∙ number_word kind z there in
           let inner : Around = record { exit = a.exit; taken = 3 + a.taken } in
-          let offset : ℕ = round.known.offset in
-          let store : List ℕ = set m.store (own.base + offset) (word_of z) in
-          let machine : State = record m { place = round.start; store = store } in
-          let place : Place = record { root = Global (owner_of (slice_get s.activations (current k))) x; path = [] } in
-          let variable : HasPlace ctx (InData offset) place (Word kind) [] [] = variable_here ctx s k m shared x offset (Word kind) (closed ctx k Quiet end [] c a then) round.known.at round.known.typed refl [] in
-          let small_there : own.base + offset < 65536 = omega (arith, (scalar_owned h s.cells m.store place.root place.path kind shared.mem variable.living).1, variable.at.0) in
-          let mem : Mem h (stored s.cells place (alone v)) store =
-          subst (λ (st : List ℕ). Mem h (stored s.cells place (alone v)) st) (ap (λ (b : ℕ). set m.store b (word_for h v)) variable.at.0 ∙ ap (set m.store (own.base + offset)) word)
-          (mem_stored h s.cells m.store place kind v shared.mem variable.living fits (plain_refers h kind v plain)) in
+          let o : ℕ = round.known.offset in
+          let y = variable_here ctx now m shared (closed ctx k Quiet end [] c a then) o (Word kind) refl [] x round.known.at round.known.typed in
+          let store : List ℕ = set m.store (address h y.place) (word_of z) in
+          let machine : State = record m { place = round.start; stack = []; store = store } in
+          let mem : Mem h (stored s.cells y.place (alone v)) store =
+          subst (λ (w : ℕ). Mem h (stored s.cells y.place (alone v)) (set m.store (address h y.place) w)) word
+          (mem_stored h s.cells m.store y.place kind v shared.mem y.has.living fits (plain_refers h kind v plain)) in
           let rows : Rows ctx after Quiet round.start [] c inner =
           body_rows ctx body (Turning x kind (z +ℤ step) step left body) round.start round.end c inner round.here
-          (instr_within piece round.end (Frn (loop_place (a.taken)) m.place) end round.next)
+          (instr_within piece round.end (Frn (framed (loop_place (a.taken))) m.place) end round.next)
           (at_once ctx _ Quiet round.end [] c inner
           (inr (record {
             quiet = refl;
@@ -107,7 +117,7 @@ module _ (ctx : Setting) where
             words = words;
             around = refl;
             small = small;
-            next_is = ap (λ (w : ℕ). (w + word_of step) % 65536) now ∙ next_word (compared_as base) z step (has_type base z (ordinal_base base round.known.base) fit.0) round.is_step;
+            next_is = ap (λ (w : ℕ). (w + word_of step) % 65536) is_now ∙ next_word (compared_as base) z step (has_type base z (ordinal_base base round.known.base) fit.0) round.is_step;
             fit = fit.1;
             turn = m.place;
             end = end;
@@ -118,20 +128,20 @@ module _ (ctx : Setting) where
           }))) in
           goes_one ctx s items (holding round.tested) 17 c (running machine s.world)
           (advances (holding round.tested) s.world _ (
-          at_step ctx (holding round.tested) shared.program (Sgw offset) round.start round.store
-          ∙ yes _ _ _ (lt-ltb (own.base + offset) 65536 small_there)
+          at_step ctx (holding round.tested) shared.program (store_code (access_at x o)) round.start round.store
+          ∙ puts ctx s (holding round.tested) shared (access_at x o) y.place kind [] y.has (variable_ready x o) (word_of z) (ap (λ (st : List ℕ). word_of z ∷ st) empty) round.start
           ))
           (subst (λ (o : Option Scalar). Lands ctx (turned_there o).phase (turned_there o) (running machine s.world) c) (sym (value_is kind z there))
+          (subst (λ (o : Option Place). Lands ctx (stored_there v o).phase (stored_there v o) (running machine s.world) c) (sym y.found)
           (record {
             machine = machine;
             is = refl;
             met = record {
               shared = shared_with ctx s m shared mem;
               around = inner;
-              ahead = rows_ahead ctx after round.start m.stack c inner
-                  (subst (λ (st : List ℕ). Rows ctx after Quiet round.start st c inner) (sym empty) rows);
+              ahead = rows_ahead ctx after round.start [] c inner rows;
             };
-          }))
+          })))
 
       -- what the instruction that tests does
       abbrev outcome : Bool → Event × State
@@ -168,11 +178,14 @@ module _ (ctx : Setting) where
       -- a turn: its number, the test and the store of its value, and then the body
       turn_goes : Goes ctx s items m (c + 20)
       turn_goes =
+          let n : ℕ = loop_place a.taken in
+          let exact : framed (loop_place a.taken) ≡ loop_place a.taken = framed_here ctx s m shared (loop_place a.taken) (omega (arith, round.room)) in
+          let behind : 4 + own_words ctx.stack.frame ≤ loop_place a.taken = omega (arith, loops_behind k ctx Quiet end [] c a then) in
           goes_after ctx s items m (holding round.loaded) (c + 20) (c + 19)
           (advances m s.world _ (
-          at_step ctx m shared.program (Llw (loop_place (a.taken))) round.loaded round.load
-          ∙ yes _ _ _ (lt-ltb (m.frame + loop_place (a.taken)) 65536 (inside s m shared (loop_place a.taken) (omega (arith, round.room))))
-          ∙ ap (λ (w : ℕ). push_row w round.loaded m) (own_read s m shared (loop_place a.taken) (m.frame + loop_place a.taken) refl (omega (arith, round.room)) ∙ words.now_is ∙ now)
+          at_step ctx m shared.program (Llw n) round.loaded (subst (λ (i : ℕ). IsAt piece m.place (Llw i) round.loaded) exact round.load)
+          ∙ yes _ _ _ (lt-ltb (m.frame + loop_place (a.taken)) 65536 (inside s m shared n behind (omega (arith, round.room))))
+          ∙ ap (λ (w : ℕ). push_row w round.loaded m) (own_read s m shared n (m.frame + loop_place a.taken) refl behind (omega (arith, round.room)) ∙ words.now_is ∙ is_now)
           ∙ pushes (word_of z) round.loaded m (omega (arith, ap length empty))
           ))
           (by_test (covers kind base) refl round.test)
@@ -181,20 +194,21 @@ module _ (ctx : Setting) where
 -- own words of the running frame, from the n-th on, are set
 record Written (ctx : Setting) (s : Source) (m : State) (n : ℕ) (store : List ℕ) (x : Home) : Type 0 where
   pub shared : Shared (at_home ctx x) s (record m { store = store })
-  pub touch : Touches ctx.home x ctx.stack.base ctx.stack.limit
+  pub touch : Touches ctx.home x (frames_of ctx.stack) ctx.stack.base ctx.stack.limit
   pub rows : (k : List Item) (p c : ℕ) (a : Around) → loop_place a.taken ≤ n → Rows ctx k Quiet p [] c a → Rows (at_home ctx x) k Quiet p [] c a
 
 written_none : (ctx : Setting) (s : Source) (m : State) (n : ℕ) → Shared ctx s m → Written ctx s m n m.store ctx.home
-written_none ctx s m n shared = record { shared = shared; touch = untouched ctx.home ctx.stack.base ctx.stack.limit; rows = λ k p c a le r. r }
+written_none ctx s m n shared = record { shared = shared; touch = untouched ctx.home (frames_of ctx.stack) ctx.stack.base ctx.stack.limit; rows = λ k p c a le r. r }
 
-written : (ctx : Setting) (s : Source) (m : State) (n : ℕ) {store : List ℕ} {x : Home} → Written ctx s m n store x → (i w : ℕ) → n ≤ i → 0 < i → i < ctx.stack.frame.layout.frame
+written : (ctx : Setting) (s : Source) (m : State) (n : ℕ) {store : List ℕ} {x : Home} → Written ctx s m n store x → (i w : ℕ) → n ≤ i → 4 + own_words ctx.stack.frame ≤ n → i < ctx.stack.frame.layout.frame
     → Written ctx s m n (set store (ctx.stack.frame.at + i) w) (shadowed x (ctx.stack.frame.at + i) w)
-written ctx s m n {store} {x} old i w above some less =
+written ctx s m n {store} {x} old i w above behind less =
     let there : State = record m { store = store } in
+    let free : 4 + own_words ctx.stack.frame ≤ i = omega (arith, above, behind) in
     record {
-      shared = shared_shadowed (at_home ctx x) s there old.shared i w less some;
-      touch = touched ctx.home x (shadowed x (ctx.stack.frame.at + i) w) ctx.stack.base ctx.stack.limit old.touch (touches_shadowed (at_home ctx x) s there old.shared i w less);
-      rows = λ k p c a le r. rows_shadowed (at_home ctx x) s there old.shared i w less k Quiet p [] c a (omega (arith, le, above)) (old.rows k p c a le r);
+      shared = shared_shadowed (at_home ctx x) s there old.shared i w free less;
+      touch = touched ctx.home x (shadowed x (ctx.stack.frame.at + i) w) (frames_of ctx.stack) ctx.stack.base ctx.stack.limit old.touch (touches_shadowed (at_home ctx x) s there old.shared i w free less);
+      rows = λ k p c a le r. rows_shadowed (at_home ctx x) s there old.shared i w free less k Quiet p [] c a (omega (arith, le, above)) (old.rows k p c a le r);
     }
 
 -- the three words of a FOR that begins, and of one that turns
@@ -219,14 +233,14 @@ module _ (ctx : Setting) where
     abbrev Left : Reach
     Left = Rows ctx k
 
-    pub for_goes : (x : ℕ) (kind : Kind) (first limit : Expression) (step : ℤ) (body : Statements) → Waiting ctx (Perform (Do (For x kind first limit step body))) Left Quiet m.place m.stack c a
+    pub for_goes : (x : Named) (kind : Kind) (first limit : Expression) (step : ℤ) (body : Statements) → Waiting ctx (Perform (Do (For x kind first limit step body))) Left Quiet m.place m.stack c a
         → Goes ctx s (Perform (Do (For x kind first limit step body)) ∷ k) m (c + 32)
     for_goes x kind first limit step body row =
         operand_goes ctx s k m c a shared (Perform (Do (For x kind first limit step body)) ∷ k) first (StartOf x kind limit step body) refl (omega arith) row.part.here.middle row.part.here.first.value (omega (arith, row.part.here.first.shallow, ap length row.part.empty))
         (expression_within l piece limit row.part.here.middle row.part.here.last row.part.here.limit.value)
         (record { part = record { of = first; same = refl; from = m.place; did = row.part; at = refl }; then = row.then })
 
-    pub start_goes : (x : ℕ) (to : Kind) (limit : Expression) (step : ℤ) (body : Statements) (v : Scalar) (kind : Kind) → within kind v ≡ true → (below : List ℕ) → m.stack ≡ word_for h v ∷ below
+    pub start_goes : (x : Named) (to : Kind) (limit : Expression) (step : ℤ) (body : Statements) (v : Scalar) (kind : Kind) → within kind v ≡ true → (below : List ℕ) → m.stack ≡ word_for h v ∷ below
         → Waiting ctx (Fill (StartOf x to limit step body)) Left (ValueOf kind) m.place below c a → Goes ctx s (Value (Scalars v) ∷ Fill (StartOf x to limit step body) ∷ k) m (c + 32)
     start_goes x to limit step body v kind fit below is row =
         let did = row.part.did in
@@ -245,7 +259,7 @@ module _ (ctx : Setting) where
           then = row.then;
         })
 
-    pub limit_goes : (x : ℕ) (to : Kind) (u : Scalar) (step : ℤ) (body : Statements) (v : Scalar) (kind : Kind) → within kind v ≡ true → (below : List ℕ) → m.stack ≡ word_for h v ∷ below
+    pub limit_goes : (x : Named) (to : Kind) (u : Scalar) (step : ℤ) (body : Statements) (v : Scalar) (kind : Kind) → within kind v ≡ true → (below : List ℕ) → m.stack ≡ word_for h v ∷ below
         → Waiting ctx (Fill (LimitOf x to u step body)) Left (ValueOf kind) m.place below c a → Goes ctx s (Value (Scalars v) ∷ Fill (LimitOf x to u step body) ∷ k) m (c + 32)
     limit_goes x to u step body v kind fit below is row =
         let r = row.part in
@@ -275,7 +289,7 @@ module _ (ctx : Setting) where
         (omega arith)
 
     -- both bounds are numbers of one kind, and their words stand on the expression stack
-    pub record Bounded (x : ℕ) (kind : Kind) (first step : ℤ) (left : ℕ) (body : Statements) : Type 0 where
+    pub record Bounded (x : Named) (kind : Kind) (first step : ℤ) (left : ℕ) (body : Statements) : Type 0 where
       pub limit : ℤ
       pub fits : has (base_of kind) first ≡ true
       pub limit_fits : has (base_of kind) limit ≡ true
@@ -285,12 +299,12 @@ module _ (ctx : Setting) where
       pub turn : ℕ
       pub end : ℕ
       pub load : IsAt piece m.place (Liw (word_of step)) stepped
-      pub enter : IsAt piece stepped (Fri (loop_place a.taken) (loop_sign (compared_as (base_of kind))) end) turn
+      pub enter : IsAt piece stepped (Fri (framed (loop_place a.taken)) (loop_sign (compared_as (base_of kind))) end) turn
       pub round : RoundRow l piece (a.taken) x kind step (BodyAt l piece (3 + a.taken) a.exit body) turn end
       pub within : end < length piece
       pub then : Left Quiet end [] c a
 
-    pub bounded_goes : (x : ℕ) (kind : Kind) (first step : ℤ) (left : ℕ) (body : Statements) → Bounded x kind first step left body
+    pub bounded_goes : (x : Named) (kind : Kind) (first step : ℤ) (left : ℕ) (body : Statements) → Bounded x kind first step left body
         → Goes ctx s (Perform (Turns x kind first step left body) ∷ k) m (c + 24)
     bounded_goes x' kind first step left body row = by_left left (sym row.count)
       where
@@ -309,8 +323,14 @@ module _ (ctx : Setting) where
         room : n + 3 ≤ l.frame
         room = row.round.room
 
+        exact : framed (loop_place a.taken) ≡ loop_place a.taken
+        exact = framed_here ctx s m shared (loop_place a.taken) (omega (arith, room))
+
+        behind : 4 + own_words ctx.stack.frame ≤ loop_place a.taken
+        behind = omega (arith, loops_behind k ctx Quiet row.end [] c a row.then)
+
         deep : m.frame + n + 2 < 65536
-        deep = omega (arith, inside ctx s m shared (n + 2) (omega (arith, room)))
+        deep = omega (arith, inside ctx s m shared (n + 2) (omega (arith, behind)) (omega (arith, room)))
 
         pushed : advanced (running m s.world) ≡ running (going m row.stepped (word_of step ∷ m.stack)) s.world
         pushed =
@@ -322,7 +342,7 @@ module _ (ctx : Setting) where
         enters : (u : ℕ) → turns first row.limit step ≡ u
             → mstep (going m row.stepped (word_of step ∷ m.stack)) ≡ begun_row own (m.frame + loop_place a.taken) row.end row.turn (going m row.stepped (word_of step ∷ m.stack)) (word_of first) (word_of step) [] (after_first u)
         enters u e =
-            at_step ctx stepped shared.program (Fri n (loop_sign (compared_as (base_of kind))) row.end) row.turn row.enter
+            at_step ctx stepped shared.program (Fri n (loop_sign (compared_as (base_of kind))) row.end) row.turn (subst (λ (i : ℕ). IsAt piece row.stepped (Fri i (loop_sign (compared_as (base_of kind))) row.end) row.turn) exact row.enter)
             ∙ ap (λ (st : List ℕ). on_three stepped (word_of step ∷ st) (loop_row own at (loop_sign (compared_as (base_of kind))) row.end row.turn stepped)) row.stack_is
             ∙ yes _ _ _ (and_from _ _ (sign_small (compared_as (base_of kind))) (ap not (step_some step row.round.is_step)))
             ∙ ap (λ (u : ℕ). begun_row own at row.end row.turn stepped (word_of first) (word_of step) [] (after_first u))
@@ -337,9 +357,9 @@ module _ (ctx : Setting) where
             (lands_on ctx s m shared k row.end [] c a (rows_ahead ctx k row.end [] c a row.then)))
             (omega arith)
         by_left (suc u) e =
-            let one = written ctx s m n (written_none ctx s m n shared) n (word_of first) (omega arith) (omega arith) (omega (arith, room)) in
-            let two = written ctx s m n one (n + 1) u (omega arith) (omega arith) (omega (arith, room)) in
-            let three = written ctx s m n two (n + 2) (word_of step) (omega arith) (omega arith) (omega (arith, room)) in
+            let one = written ctx s m n (written_none ctx s m n shared) n (word_of first) (omega arith) behind (omega (arith, room)) in
+            let two = written ctx s m n one (n + 1) u (omega arith) behind (omega (arith, room)) in
+            let three = written ctx s m n two (n + 2) (word_of step) (omega arith) behind (omega (arith, room)) in
             let x : Home = shadowed (shadowed (shadowed h (ctx.stack.frame.at + n) (word_of first)) (ctx.stack.frame.at + (n + 1)) u) (ctx.stack.frame.at + (n + 2)) (word_of step) in
             let store : List ℕ = set (set (set m.store (ctx.stack.frame.at + n) (word_of first)) (ctx.stack.frame.at + (n + 1)) u) (ctx.stack.frame.at + (n + 2)) (word_of step) in
             let begun : State = record m { place = row.turn; stack = []; store = store } in
@@ -370,7 +390,7 @@ module _ (ctx : Setting) where
             (omega arith))
             (omega arith)
 
-    pub next_goes : (x : ℕ) (kind : Kind) (z step : ℤ) (left : ℕ) (body : Statements) → NextWaits ctx x kind z step left body Left Quiet m.place m.stack c a
+    pub next_goes : (x : Named) (kind : Kind) (z step : ℤ) (left : ℕ) (body : Statements) → NextWaits ctx x kind z step left body Left Quiet m.place m.stack c a
         → Goes ctx s (Perform (Turns x kind z step left body) ∷ k) m (c + 32)
     next_goes x' kind z step left body row = by_left left refl row.fit row.small
       where
@@ -383,16 +403,22 @@ module _ (ctx : Setting) where
         room : loop_place row.outer.taken + 3 ≤ l.frame
         room = row.round.room
 
+        exact : framed (loop_place row.outer.taken) ≡ loop_place row.outer.taken
+        exact = framed_here ctx s m shared (loop_place row.outer.taken) (omega (arith, room))
+
+        behind : 4 + own_words ctx.stack.frame ≤ loop_place row.outer.taken
+        behind = omega (arith, loops_behind k ctx Quiet row.end [] c row.outer row.then)
+
         deep : m.frame + loop_place row.outer.taken + 2 < 65536
-        deep = omega (arith, inside ctx s m shared (loop_place row.outer.taken + 2) (omega (arith, room)))
+        deep = omega (arith, inside ctx s m shared (loop_place row.outer.taken + 2) (omega (arith, behind)) (omega (arith, room)))
 
         again : (u : ℕ) → left ≡ u → mstep m ≡ turn_row own (m.frame + loop_place row.outer.taken) row.turn row.end m row.words.now u (word_of step)
         again u e =
-            at_step ctx m shared.program (Frn n row.turn) row.end (subst (λ (p : ℕ). IsAt piece p (Frn n row.turn) row.end) (sym row.at) row.round.next)
+            at_step ctx m shared.program (Frn n row.turn) row.end (subst (λ (i : ℕ). IsAt piece m.place (Frn i row.turn) row.end) exact (subst (λ (p : ℕ). IsAt piece p (Frn (framed n) row.turn) row.end) (sym row.at) row.round.next))
             ∙ yes _ _ _ (lt-ltb (at + 1) 65536 (omega (arith, deep)))
-            ∙ ap (λ (w : ℕ). turn_row own at row.turn row.end m w (get_or m.store (at + 1) 0) (get_or m.store (at + 2) 0)) (own_read ctx s m shared n at refl (omega (arith, room)) ∙ row.words.now_is)
-            ∙ ap (λ (w : ℕ). turn_row own at row.turn row.end m row.words.now w (get_or m.store (at + 2) 0)) (own_read ctx s m shared (n + 1) (at + 1) (omega arith) (omega (arith, room)) ∙ ap h.shadow (omega arith) ∙ row.words.left_is ∙ e)
-            ∙ ap (λ (w : ℕ). turn_row own at row.turn row.end m row.words.now u w) (own_read ctx s m shared (n + 2) (at + 2) (omega arith) (omega (arith, room)) ∙ ap h.shadow (omega arith) ∙ row.words.step_is)
+            ∙ ap (λ (w : ℕ). turn_row own at row.turn row.end m w (get_or m.store (at + 1) 0) (get_or m.store (at + 2) 0)) (own_read ctx s m shared n at refl behind (omega (arith, room)) ∙ row.words.now_is)
+            ∙ ap (λ (w : ℕ). turn_row own at row.turn row.end m row.words.now w (get_or m.store (at + 2) 0)) (own_read ctx s m shared (n + 1) (at + 1) (omega arith) (omega (arith, behind)) (omega (arith, room)) ∙ ap h.shadow (omega arith) ∙ row.words.left_is ∙ e)
+            ∙ ap (λ (w : ℕ). turn_row own at row.turn row.end m row.words.now u w) (own_read ctx s m shared (n + 2) (at + 2) (omega arith) (omega (arith, behind)) (omega (arith, room)) ∙ ap h.shadow (omega arith) ∙ row.words.step_is)
 
         by_left : (u : ℕ) → left ≡ u → TurnsFit (base_of kind) z step u → u < 65536 → Goes ctx s (Perform (Turns x' kind z step u body) ∷ k) m (c + 32)
         by_left zero e fit small =
@@ -404,8 +430,8 @@ module _ (ctx : Setting) where
         by_left (suc u) e fit small =
             let sum : (row.words.now + word_of step) % 65536 ≡ word_of z = row.next_is ∙ omega (arith, word_small (compared_as (base_of kind)) z (has_type (base_of kind) z (ordinal_base (base_of kind) row.round.known.base) fit.0)) in
             let fewer : suc u - 1 ≡ u = omega arith in
-            let one = written ctx s m n (written_none ctx s m n shared) (n + 1) u (omega arith) (omega arith) (omega (arith, room)) in
-            let two = written ctx s m n one n (word_of z) (omega arith) (omega arith) (omega (arith, room)) in
+            let one = written ctx s m n (written_none ctx s m n shared) (n + 1) u (omega arith) behind (omega (arith, room)) in
+            let two = written ctx s m n one n (word_of z) (omega arith) behind (omega (arith, room)) in
             let x : Home = shadowed (shadowed h (ctx.stack.frame.at + (n + 1)) u) (ctx.stack.frame.at + n) (word_of z) in
             let store : List ℕ = set (set m.store (ctx.stack.frame.at + (n + 1)) u) (ctx.stack.frame.at + n) (word_of z) in
             let turning : State = record m { place = row.turn; store = store } in
@@ -422,7 +448,7 @@ module _ (ctx : Setting) where
             again (suc u) e
             ∙ no _ _ _ (ne_eqb (suc u) 0 (λ d. omega (arith, d)))
             ∙ yes _ _ _ (lt-ltb (at + 2) 65536 deep)
-            ∙ yes _ _ _ (lt-ltb row.turn (length own.code) (inside_own ctx shared.program row.turn (instr_within piece row.turn (Llw n) row.round.loaded row.round.load)))
+            ∙ yes _ _ _ (lt-ltb row.turn (length own.code) (inside_own ctx shared.program row.turn (instr_within piece row.turn (Llw (framed n)) row.round.loaded row.round.load)))
             ∙ ap (λ (st : List ℕ). let r : Event × State = (Went, record m { place = row.turn; store = st }) in r) same
             ))
             two.touch

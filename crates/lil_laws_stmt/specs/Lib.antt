@@ -11,6 +11,7 @@ pub mod Ends
 pub mod Exits
 pub mod ForWords
 pub mod Fors
+pub mod Locals
 pub mod Members
 pub mod News
 pub mod Painting

@@ -228,6 +228,7 @@ module _ (ctx : Setting) where
               shadow = λ i. refl;
               mem = mem;
               heap = heap;
+              unborn = shared.unborn;
             })
             (ap (λ (u : Shape). made u place k now) target_is)
             (subst (λ (q : ℕ). Rows ctx k Quiet q [] c a) (sym row.part.amid.here.by.2.2) row.then)

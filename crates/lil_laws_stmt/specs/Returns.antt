@@ -1,14 +1,16 @@
 -- The end of a procedure: a return to the frame below.
-use Rattle.std.proofs.Common.{◌≡◌, ℕ, ◌+◌, ◌-◌, ◌<◌, ◌≤◌, ◌⊎◌, inl, inr, Some, List, [], ◌∷◌, ◌++◌, get_or, refl, sym, ap, ◌∙◌, subst, arith}
-use Rattle.std.specs.Prelude.{is_some}
+use Rattle.std.proofs.Common.{◌≡◌, ℕ, ◌+◌, ◌-◌, ◌<◌, ◌≤◌, ◌⊎◌, inl, inr, Bool, true, false, cond, not, ◌||◌, eqb-true, Some, List, [], ◌∷◌, ◌++◌, get_or, refl, sym, ap, ◌∙◌, subst, arith}
+use Rattle.std.specs.{Prelude.{is_some, ◌==◌}, List.list_any}
 use Rattle.std.proofs.lemmas.Bool.{ne_eqb, lt-ltb, le-leb, and_from}
-use Rattle.lil_meaning.specs.Items.{End, Item, Perform, Source}
+use Rattle.lil_resolved.specs.Kinds.{Absent}
+use Rattle.lil_meaning.specs.Items.{Root, Global, Local, Object, End, Item, Perform, Source}
 use Rattle.lil_asm.specs.declared.instr.Instr.TheVariants.{Rtn}
 use Rattle.lil_mcode.specs.Table.{Module, State, stack_of, module_at, return_row}
 use Rattle.lil_table.specs.Rows.{IsAt}
-use Rattle.lil_match.specs.{Goes.{OwnWords, Stands, Shared, Goes}, Running.{running, advanced}, Parts.{yes, no}, Homes.{Own, Fixed, Free, Home, extends_self, Mem, Stays, Turns, mem_turned, fixed_turned}, Waits.{Quiet, Frame, Setting, at_home, with_frames, Rows, RowsOf, Back}, Known.{known_kept, each_known, each_comes}}
+use Rattle.lil_match.specs.{Goes.{OwnWords, Stands, IsUnborn, beyond, Shared, Goes}, Running.{running, advanced}, Parts.{yes, no}, Homes.{Of, Own, Fixed, Free, Home, extends_self, Mem}, Waits.{Quiet, Frame, is_of, sees, Setting, at_home, with_frames, Rows, RowsOf, Back}, Known.{or_later, known_kept, each_known, each_comes, each_local}}
 use Rattle.lil_match.specs.{Kept.{EachAbove, first_words, stands_above, all_above, stands_kept, rows_kept}, Steps.{advances, at_step, rows_ahead, goes_one_in}}
-use Rattle.lil_laws_stmt.specs.Painting.{painted, painted_there, painted_beside, Side, Before, Between, Behind', side}
+use Rattle.lil_laws_stmt.specs.Locals.{of_activation, released, mem_released, fixed_released}
+use Rattle.lil_laws_stmt.specs.Painting.{painted_there, painted_beside, Side, Before, Between, Behind', side}
 
 module _ (ctx : Setting) (f g : Frame) (gs bs : List Frame) where
   abbrev called : Setting
@@ -25,9 +27,9 @@ module _ (ctx : Setting) (f g : Frame) (gs bs : List Frame) where
     abbrev base : ℕ
     base = ctx.stack.base
 
-    -- the frame's words are in use no more
+    -- the frame's words are in use no more, and its variables go
     abbrev x : Home
-    x = record (ctx.home) { owner = painted ctx.home.owner f.at m.top (λ a. Free ctx.stack.base) }
+    x = released ctx.home f.at m.top ctx.stack.base f.activation
 
     there_is : (a : ℕ) → f.at ≤ a → a < m.top → x.owner a ≡ Free ctx.stack.base
     there_is a from below = painted_there ctx.home.owner f.at m.top (λ b. Free ctx.stack.base) a from below
@@ -46,7 +48,7 @@ module _ (ctx : Setting) (f g : Frame) (gs bs : List Frame) where
 
     mark : (i : ℕ) → i < 4 → get_or m.store (m.frame + i) 0 ≡ ctx.home.shadow (f.at + i)
     mark i less =
-        ap (λ (a : ℕ). get_or m.store (a + i) 0) shared.standing.frame_is ∙ shared.mem.kept (f.at + i) (words.own i (omega (arith, less, words.mark, words.below)))
+        ap (λ (a : ℕ). get_or m.store (a + i) 0) shared.standing.frame_is ∙ shared.mem.kept (f.at + i) (words.own i (inl less) (omega (arith, less, words.mark, words.below)))
 
     abbrev machine : State
     machine = record m { top = m.frame; frame = g.at; place = f.back; running = g.number }
@@ -66,22 +68,46 @@ module _ (ctx : Setting) (f g : Frame) (gs bs : List Frame) where
         (and_from _ _ (le-leb (g.at + 4) m.frame (omega (arith, shared.standing.frame_is, under.mark, under.below))) (ap is_some there))))
         )
 
-    each : (a : ℕ) → Stays h x m.store m.store a ⊎ Turns h x m.store a
-    each a = by (side f.at m.top a)
-      where
-        by : Side f.at m.top a → Stays h x m.store m.store a ⊎ Turns h x m.store a
-        by (Before z) = inl (record { owner = beside_is a (inl z); shadow = refl; word = refl })
-        by (Between z y) =
-            let own : ctx.home.owner a ≡ Own = ap ctx.home.owner (let e : a ≡ f.at + (a - f.at) = omega (arith, z) in e) ∙ words.own (a - f.at) (omega (arith, z, y)) in
-            inr (record { before = inl own; after = inr (ctx.stack.base, there_is a z y); word = λ mine. shared.mem.kept a own })
-        by (Behind' z y) = inl (record { owner = beside_is a (inr (z, y)); shadow = refl; word = refl })
+    -- its words are the machine's own, or its variables'
+    mine : (i : ℕ) → f.at ≤ i → i < m.top → (ctx.home.owner i ≡ Own) ⊎ ((y : ℕ) × (ctx.home.owner i ≡ Of (Local f.activation y)))
+    mine i from below =
+        subst (λ (a : ℕ). (ctx.home.owner a ≡ Own) ⊎ ((y : ℕ) × (ctx.home.owner a ≡ Of (Local f.activation y)))) (let e : f.at + (i - f.at) ≡ i = omega (arith, from) in e) (words.mine (i - f.at) (omega (arith, from, below)))
 
     mem : Mem x s.cells m.store
-    mem = mem_turned h m.store m.store x.owner x.shadow h.workspaces each s.cells shared.mem (extends_self h.workspaces) refl
+    mem = mem_released h s.cells m.store shared.mem f.at m.top ctx.stack.base f.activation mine
 
     -- a word that never changes isn't the frame's
     fixed_kept : (a : ℕ) → ctx.home.owner a ≡ Fixed → (x.owner a ≡ Fixed) × (ctx.home.shadow a ≡ ctx.home.shadow a)
-    fixed_kept = fixed_turned h m.store m.store x.owner x.shadow h.workspaces each
+    fixed_kept a e = (fixed_released h s.cells m.store shared.mem f.at m.top ctx.stack.base f.activation mine a e, refl)
+
+    -- no other frame's variables go
+    alive : (r : Root) → sees (g ∷ (gs ++ bs)) r ≡ true → of_activation f.activation r ≡ false
+    alive (Global m y) seen = refl
+    alive (Object o) seen = refl
+    alive (Local c y) seen = by (f.activation == c) refl
+      where
+        by : (b : Bool) → (f.activation == c) ≡ b → b ≡ false
+        by true e = let clash : true ≡ false = sym seen ∙ ap (λ (a : ℕ). list_any (is_of a) (g ∷ (gs ++ bs))) (sym (eqb-true f.activation c e)) ∙ shared.standing.locals.1 in cc
+        by false e = refl
+
+    shape_kept : (r : Root) → sees (g ∷ (gs ++ bs)) r ≡ true → x.shape r ≡ ctx.home.shape r
+    shape_kept r seen = no (of_activation f.activation r) Absent (ctx.home.shape r) (alive r seen)
+
+    beyond_it : (r : Root) → beyond (f ∷ g ∷ (gs ++ bs)) r ≡ true → x.shape r ≡ ctx.home.shape r
+    beyond_it (Global m y) away = refl
+    beyond_it (Object o) away = refl
+    beyond_it (Local c y) away = by (f.activation == c) away
+      where
+        by : (b : Bool) → not (b || list_any (is_of c) (g ∷ (gs ++ bs))) ≡ true → cond b Absent (ctx.home.shape (Local c y)) ≡ ctx.home.shape (Local c y)
+        by true away = absurd (let clash : false ≡ true = away in cc)
+        by false away = refl
+
+    unborn : IsUnborn x.shape ctx.activations
+    unborn c y past = by (f.activation == c)
+      where
+        by : (b : Bool) → cond b Absent (ctx.home.shape (Local c y)) ≡ Absent
+        by true = refl
+        by false = shared.unborn c y past
 
     pub goes_back : Goes called s (Perform (End n) ∷ k) m (c + 32)
     goes_back =
@@ -93,20 +119,31 @@ module _ (ctx : Setting) (f g : Frame) (gs bs : List Frame) where
           met = record {
             shared = record {
               mem = mem;
-              heap = shared.heap;
+              heap = record {
+                born = shared.heap.born;
+                above = shared.heap.above;
+                apart = shared.heap.apart;
+                known = shared.heap.known;
+                clear = shared.heap.clear;
+                distinct = shared.heap.distinct;
+                rest = shared.heap.rest;
+              };
+              unborn = unborn;
               program = record { table_is = shared.program.table_is; known = g'.callers.0.known; piece = g'.callers.0.piece; running_is = refl; marked_is = shared.program.marked_is };
               standing = record {
                 frame_is = refl;
                 base_is = g'.base_is;
                 limit_is = g'.limit_is;
                 bodies_are = g'.bodies_are;
-                known = known_kept ctx.library ctx.loaded ctx.table ctx.activations ctx.activations (λ i b e. e) h x (λ r e. refl) (λ r e. refl) refl fixed_kept g g'.callers.0;
-                callers = each_known ctx.library ctx.loaded ctx.table ctx.activations ctx.activations (λ i b e. e) h x (λ r e. refl) (λ r e. refl) refl fixed_kept gs g'.callers.1;
-                comes = each_comes ctx.library ctx.loaded ctx.table ctx.activations ctx.activations (λ i b e. e) h x (λ r e. refl) (λ r e. refl) refl fixed_kept ctx.stack.base bs g'.comes;
+                known = known_kept ctx.library ctx.loaded ctx.table ctx.activations ctx.activations (λ i b e. e) h x (λ n y. refl) (λ n y. refl) refl fixed_kept g g'.callers.0;
+                callers = each_known ctx.library ctx.loaded ctx.table ctx.activations ctx.activations (λ i b e. e) h x (λ n y. refl) (λ n y. refl) refl fixed_kept gs g'.callers.1;
+                comes = each_comes ctx.library ctx.loaded ctx.table ctx.activations ctx.activations (λ i b e. e) h x (λ n y. refl) (λ n y. refl) refl fixed_kept ctx.stack.base bs g'.comes;
                 stands = subst (λ (t : ℕ). Stands x.owner base t g gs) (sym g'.frame_is)
                     (stands_kept h.owner x.owner base f.at g gs (λ a from below. beside_is a (inl below)) g'.stands.1);
                 links = g'.links.1;
+                locals = each_local ctx.activations ctx.activations (λ i b e. e) h x (g ∷ (gs ++ bs)) (λ r seen e. refl) (λ r seen e. shape_kept r seen) g'.locals.2;
                 room = λ a from below. room a (omega (arith, from, g'.frame_is)) below (side f.at m.top a);
+                based = g'.based;
                 low = omega (arith, g'.frame_is, words.below, g'.low);
                 high = g'.high;
               };
@@ -120,20 +157,20 @@ module _ (ctx : Setting) (f g : Frame) (gs bs : List Frame) where
             ahead = rows_ahead (at_home returning x) k f.back m.stack c back.outer
                 (subst (λ (z : List ℕ). Rows (at_home returning x) k Quiet f.back z c back.outer) (sym empty)
                 (rows_kept k returning x ctx.stack.limit (base + 4) low.1 Quiet f.back [] c back.outer
-                (record { shadow = λ a from below. refl; base = λ r e l. refl; shape = λ r e l. refl; targets = refl; workspaces = extends_self h.workspaces })
+                (record { shadow = λ a from below. refl; base = λ r e l. refl; shape = λ r e l. shape_kept r e; targets = refl; workspaces = extends_self h.workspaces })
                 back.then));
           };
         })
         (record {
           owner = λ a o. beside_is a (beside a o);
           shadow = λ a o. refl;
-          base = λ r e. refl;
-          shape = λ r e. refl;
+          base = λ r away e. refl;
+          shape = λ r away e. beyond_it r away;
           targets = refl;
           workspaces = extends_self h.workspaces;
           fixed = fixed_kept;
         })
-        (refl, omega arith)
+        (record { base = refl; limit = omega arith; frames = λ a seen. inl (or_later (is_of a f) (list_any (is_of a) (g ∷ (gs ++ bs))) seen) })
         (omega arith)
       where
         room : (a : ℕ) → f.at ≤ a → a < ctx.stack.limit → Side f.at m.top a → x.owner a ≡ Free ctx.stack.base

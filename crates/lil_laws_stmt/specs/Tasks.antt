@@ -58,7 +58,7 @@ module _ (ctx : Setting) where
               seen = there.seen;
               living = there.living ∙ r.target.scalar.shape;
               there = refl;
-              at = subst (λ (x : List ℕ). Reaches own.base (readied b) (address h place) under x) row.part.empty there.at;
+              at = subst (λ (x : List ℕ). Reaches own.base ctx.stack.frame.display (readied b) (address h place) under x) row.part.empty there.at;
             };
           };
           then = row.then;

@@ -1,12 +1,12 @@
 -- The rows of WITH: the place of its record is fixed, its statements are done, and it ends.
-use Rattle.std.proofs.Common.{ℕ, suc, ◌+◌, ◌<◌, List, [], ◌∷◌, ◌++◌, length, set, eqb, refl, sym, ap, ◌∙◌, subst, arith, eq-eqb}
+use Rattle.std.proofs.Common.{◌≡◌, ◌≤◌, inl, ℕ, suc, ◌+◌, ◌<◌, List, [], ◌∷◌, ◌++◌, length, set, eqb, refl, sym, ap, ◌∙◌, subst, arith, eq-eqb}
 use Rattle.std.proofs.lemmas.Bool.{lt-ltb}
 use Rattle.lil_resolved.specs.{Resolved.{Designator, Inside, Statements, shape_of}, Kinds.Shape}
 use Rattle.lil_meaning.specs.Items.{Place, Places, Hold, Do, Holding, Item, Value, Fill, Perform, Source, doing}
 use Rattle.lil_asm.specs.declared.instr.Instr.TheVariants.{Slw}
 use Rattle.lil_mcode.specs.{declared.machine.Event.{Event, TheVariants.Went}, Table.{State, going}}
-use Rattle.lil_table.specs.Rows.{holding, access_of, loop_place}
-use Rattle.lil_match.specs.{Goes.{Shared, Goes}, Running.running, Parts.yes, Homes.{Home, address, shadowed}, Waits.{Setting, frame_of, laid_out, at_home, inside_with, Quiet, AtPlace, Around, Reach, RowsOf, Rows, Designates, placed, HoldingWaits, Waiting}, Kept.{sees_laid, own_low, shared_shadowed, touches_shadowed, rows_shadowed}}
+use Rattle.lil_table.specs.Rows.{holding, access_of, IsAt, BodyAt, framed, loop_place}
+use Rattle.lil_match.specs.{Goes.{Shared, Goes}, Running.running, Parts.yes, Homes.{Home, address, shadowed}, Variables.framed_here, Waits.{own_words, Setting, frame_of, laid_out, at_home, inside_with, Quiet, AtPlace, Around, Reach, RowsOf, Rows, Designates, placed, HoldingWaits, Waiting}, Kept.{sees_laid, loops_behind, own_low, shared_shadowed, touches_shadowed, rows_shadowed}}
 use Rattle.lil_match.specs.{Laid.{shared_laid, IsAround, around_self, around_more, shared_around, goes_around}, Steps.{advances, at_step, at_once, rows_ahead, lands_on, goes_none, goes_one_in, located_goes}}
 use Rattle.lil_laws_place.specs.Codes.{addressed}
 use Rattle.lil_laws_stmt.specs.Control.{body_rows}
@@ -34,6 +34,8 @@ module _ (ctx : Setting) where
         let amid = row.part.amid in
         let r = amid.here in
         let n : ℕ = loop_place a.taken in
+        let exact : framed (loop_place a.taken) ≡ loop_place a.taken = framed_here ctx s m shared (loop_place a.taken) (omega (arith, r.room)) in
+        let behind : 4 + own_words ctx.stack.frame ≤ loop_place a.taken = omega (arith, loops_behind k ctx Quiet amid.end [] c a row.then) in
         let w : ℕ = address h place in
         let less : loop_place a.taken < l.frame = omega (arith, r.room) in
         let items : List Item = Value (Places place) ∷ Fill (Hold body) ∷ k in
@@ -44,12 +46,12 @@ module _ (ctx : Setting) where
         let after : List Item = Perform (Holding place) ∷ k in
         let here : State = going m r.start (w ∷ below) in
         let machine : State = record m { place = r.kept; stack = []; store = set m.store (ctx.stack.frame.at + n) w } in
-        let stays : Rows outer k Quiet amid.end [] c a = rows_shadowed ctx s m shared n w less k Quiet amid.end [] c a (omega arith) row.then in
+        let stays : Rows outer k Quiet amid.end [] c a = rows_shadowed ctx s m shared n w behind less k Quiet amid.end [] c a (omega arith) row.then in
         addressed ctx s items m shared (access_of l d) place t m.stack below has (omega (arith, ap length row.part.empty)) m.place r.start (c + 32) (c + 1) (rw amid.at r.address)
         (goes_one_in ctx s items here x inner.stack (c + 1) c (running machine s.world)
         (advances here s.world _ (
-        at_step ctx here shared.program (Slw n) r.kept r.keep
-        ∙ yes _ _ _ (lt-ltb (m.frame + n) 65536 (own_low ctx s m shared n w less))
+        at_step ctx here shared.program (Slw n) r.kept (subst (λ (i : ℕ). IsAt piece r.start (Slw i) r.kept) exact r.keep)
+        ∙ yes _ _ _ (lt-ltb (m.frame + n) 65536 (own_low ctx s m shared n w behind less))
         ∙ ap (λ (f : ℕ). let e : Event × State = (Went, record m { place = r.kept; stack = below; store = set m.store (f + n) w }) in e) shared.standing.frame_is
         ∙ ap (λ (z : List ℕ). let e : Event × State = (Went, record m { place = r.kept; stack = z; store = set m.store (ctx.stack.frame.at + n) w }) in e) row.part.empty
         ))
@@ -57,10 +59,10 @@ module _ (ctx : Setting) where
           machine = machine;
           is = refl;
           met = record {
-            shared = shared_laid outer (holding ctx.stack.frame.layout t n) refl s machine (shared_shadowed ctx s m shared n w less (omega arith));
+            shared = shared_laid outer (holding ctx.stack.frame.layout t n) refl s machine (shared_shadowed ctx s m shared n w behind less);
             around = around;
             ahead = rows_ahead inner (doing body after) r.kept [] c around
-                (body_rows inner body after r.kept amid.end c around r.within amid.within
+                (body_rows inner body after r.kept amid.end c around (subst (λ (i : ℕ). BodyAt (holding l t i) piece (suc a.taken) a.exit body r.kept amid.end) exact r.within) amid.within
                 (at_once inner _ Quiet amid.end [] c around
                 (record {
                   quiet = refl;
@@ -79,8 +81,8 @@ module _ (ctx : Setting) where
                 })));
           };
         })
-        (touches_shadowed ctx s m shared n w less)
-        (refl, omega arith)
+        (touches_shadowed ctx s m shared n w behind less)
+        (record { base = refl; limit = omega arith; frames = λ i seen. inl seen })
         (omega arith))
         (omega arith)
 

@@ -6,13 +6,8 @@ use Rattle.lil_declared.specs.declared.declared.RVar.{RVar}
 use Rattle.lil_resolved.specs.declared.resolved.RStmt.{RStmt}
 use Rattle.lil_layout.specs.Strings.{body_words}
 
-abbrev pub words_by : ℕ → Option ℕ → ℕ
-words_by n None = n
-words_by n (Some owner) = 0
-
--- the words of a variable of the module itself: those of a procedure aren't there
 abbrev pub variable_words : Table → RVar → ℕ
-variable_words t v = words_by (words t v.sort) v.owner
+variable_words t v = words t v.sort
 
 -- those of the strings of statements: none where a form of them has no code
 abbrev pub text_words : Option (List RStmt) → ℕ

@@ -8,22 +8,12 @@ use lil_declared::RVar;
 use lil_resolved::RStmt;
 use lil_types::{TypeTable, words};
 
-/// The words of a variable of the module itself; those of a procedure aren't there.
-fn variable_words(t: &TypeTable, of: &RVar) -> u32
-    ensures { result ≡ min (spec.variable_words t.now of.now) 4294967295 }
-{
-    match of.owner {
-        None => words(t, of.sort),
-        Some(_) => 0,
-    }
-}
-
 fn variables_words(t: &TypeTable, of: &[RVar]) -> u32
     ensures { result ≡ min (sum_by (spec.variable_words t.now) of.now) 4294967295 }
 {
     let mut sum: u32 = 0;
     for one in of {
-        sum = sum.saturating_add(variable_words(t, one));
+        sum = sum.saturating_add(words(t, one.sort));
     }
     sum
 }

@@ -1,27 +1,29 @@
 -- Matched states: the code at hand does the items that are left, the store has the cells, and frames stand one over another. One step of
 -- the source leads from one to the next.
-use Rattle.std.proofs.Common.{◌≡◌, ℕ, ◌+◌, ◌<◌, ◌≤◌, ◌⊎◌, Bool, true, Option, Some, None, List, [], ◌∷◌, length, get_or, map}
-use Rattle.std.specs.Prelude.{slice_get}
+use Rattle.std.proofs.Common.{◌≡◌, ℕ, ◌+◌, ◌<◌, ◌≤◌, ◌⊎◌, Bool, true, false, not, Option, Some, None, List, [], ◌∷◌, length, get_or, map}
+use Rattle.std.specs.{Prelude.slice_get, List.list_any}
 use Rattle.lil_base.specs.declared.fault.{LimitKind.LimitKind, TrapAt.TrapAt}
 use Rattle.lil_base.specs.declared.fault.LimitKind.TheVariants as limit
-use Rattle.lil_resolved.specs.{Resolved.{Procedure, Resolved, procedure_by, around_of}, Sizes.frame_words, Kinds.{Shape, is_there, shape_at}}
-use Rattle.lil_meaning.specs.{Items.{Root, Global, Object, Cells, targets_of, loaded_at, Item, Activation, Workspace, Parked, Level, Phase, Going, Closing, Ended, Trapped, Source, heap_words}, World.{World, all_closed}, Need.{frame_of, chain_of}, Steps.{next, owner_of, procedure_of, procedures_of, surrounding, name_of, procedure_name}}
+use Rattle.lil_resolved.specs.{Resolved.{Procedure, Resolved, procedure_by, outline_of}, Sizes.frame_words, Kinds.{Shape, Absent, is_there, shape_at, offsets_from}}
+use Rattle.lil_meaning.specs.{Items.{Root, Global, Local, Object, Cells, targets_of, loaded_at, Item, Activation, Workspace, Parked, Level, Phase, Going, Closing, Ended, Trapped, Source, heap_words}, World.{World, all_closed}, Need.{frame_of, chain_of}, Steps.{next, own_slot, owner_of, procedure_of, procedures_of, surrounding, name_of, procedure_name}}
 use Rattle.lil_mcode.specs.Table.{Module, StackRegisters, Kept, State, stack_of, module_at}
 use Rattle.lil_asm.specs.Stretches.{stretch}
 use Rattle.lil_table.specs.Rows.{Layout, FramedRow, exactly}
-use Rattle.lil_match.specs.{Running.{Finish, Running, Finished, TrappedBy, Limited, Run, mrun, running}, Homes.{Owner, Own, Fixed, Free, Home, Extends, lives, Mem}, Waits.{stutter, Frame, Stack, Setting, Quiet, Around, Ahead}}
+use Rattle.lil_match.specs.{Running.{Finish, Running, Finished, TrappedBy, Limited, Run, mrun, running}, Homes.{Owner, Of, Own, Fixed, Free, Home, Extends, lives, Mem}, Waits.{stutter, Frame, locals_in, own_words, frames_of, is_of, Stack, Setting, Quiet, Around, Ahead}}
 
 -- a run that has shown no more, and goes on
 pub record IsStill (w : World) (run : Run) : Type 0 where
   pub world : run.world ≡ w
   pub finish : run.finish ≡ Running
 
--- a frame's words, and those above it up to a place, are the machine's own: at most a whole expression stack and its length
+-- A frame's words, and those above it up to a place, are the machine's own, or those of its variables behind the mark: at most a whole
+-- expression stack and its length are above it.
 pub record OwnWords (owner : ℕ → Owner) (f : Frame) (top : ℕ) : Type 0 where
-  pub mark : 4 ≤ f.layout.frame
+  pub mark : 4 + own_words f ≤ f.layout.frame
   pub below : f.at + f.layout.frame ≤ top
   pub most : top ≤ f.at + (f.layout.frame + 17)
-  pub own : (i : ℕ) → f.at + i < top → owner (f.at + i) ≡ Own
+  pub own : (i : ℕ) → (i < 4) ⊎ (4 + own_words f ≤ i) → f.at + i < top → owner (f.at + i) ≡ Own
+  pub mine : (i : ℕ) → f.at + i < top → (owner (f.at + i) ≡ Own) ⊎ ((x : ℕ) × (owner (f.at + i) ≡ Of (Local f.activation x)))
 
 -- frames stand one over another, the lowest at the base
 abbrev pub Stands : (ℕ → Owner) → ℕ → ℕ → Frame → List Frame → Type 0
@@ -56,22 +58,24 @@ Among f (g ∷ gs) = (f ≡ g) ⊎ Among f gs
 
 -- The activation around one whose frame begins at a word is that of procedure e, with others around it: it has one of the frames, and that
 -- word says where.
-pub record LinkedTo (shadow : ℕ → ℕ) (activations : List Activation) (a at e : ℕ) (es : List ℕ) (gs : List Frame) : Type 0 where
+pub record LinkedTo (shadow : ℕ → ℕ) (activations : List Activation) (a number at : ℕ) (shown : List ℕ) (e : ℕ) (es : List ℕ) (gs : List Frame) : Type 0 where
   pub to : Frame
   pub among : Among to gs
   pub outer : surrounding activations a ≡ Some to.activation
+  pub owner : to.number ≡ number
   pub chain : to.layout.scope.chain ≡ e ∷ es
   pub word : shadow at ≡ to.at
+  pub display : shown ≡ at ∷ to.display
 
 -- none is around a procedure of the module
-abbrev pub Linked : (ℕ → ℕ) → List Activation → (a at : ℕ) → List ℕ → List Frame → Type 0
-Linked shadow activations a at [] gs = Unit {0}
-Linked shadow activations a at (p ∷ []) gs = Unit {0}
-Linked shadow activations a at (p ∷ e ∷ es) gs = LinkedTo shadow activations a at e es gs
+abbrev pub Linked : (ℕ → ℕ) → List Activation → (a number at : ℕ) → (display chain : List ℕ) → List Frame → Type 0
+Linked shadow activations a number at display [] gs = display ≡ []
+Linked shadow activations a number at display (p ∷ []) gs = display ≡ at ∷ []
+Linked shadow activations a number at display (p ∷ e ∷ es) gs = LinkedTo shadow activations a number at display e es gs
 
 abbrev pub Chained : (ℕ → ℕ) → List Activation → Frame → List Frame → Type 0
-Chained shadow activations f [] = Linked shadow activations f.activation f.at f.layout.scope.chain []
-Chained shadow activations f (g ∷ gs) = Linked shadow activations f.activation f.at f.layout.scope.chain (g ∷ gs) × Chained shadow activations g gs
+Chained shadow activations f [] = Linked shadow activations f.activation f.number f.at f.display f.layout.scope.chain []
+Chained shadow activations f (g ∷ gs) = Linked shadow activations f.activation f.number f.at f.display f.layout.scope.chain (g ∷ gs) × Chained shadow activations g gs
 
 -- what a layout says of the module alone, and layouts in one module
 abbrev pub module_part : Layout → Layout
@@ -84,7 +88,7 @@ IsPart l m = module_part m ≡ module_part l
 pub record Entered (own : Module) (l : Layout) (p : ℕ) (its : Procedure) : Type 0 where
   pub inner : Layout
   pub part : IsPart l inner
-  pub frame : inner.frame ≡ frame_words its.body
+  pub frame : inner.frame ≡ frame_words its.locals its.body
   pub chain : inner.scope.chain ≡ p ∷ its.around
   pub free : inner.held ≡ []
   pub entry : ℕ
@@ -92,10 +96,24 @@ pub record Entered (own : Module) (l : Layout) (p : ℕ) (its : Procedure) : Typ
   pub after : ℕ
   pub within : after ≤ length own.code
   pub apart : IsApart own.procedures p entry after
-  pub code : FramedRow (record inner { target = exactly }) (stretch entry after own.code) its.body entry after
+  pub code : FramedRow (record inner { target = exactly }) (stretch entry after own.code) its.locals its.body entry after
 
 abbrev pub HasCodes : Module → List Procedure → Layout → Type 0
 HasCodes own ps l = (p : ℕ) (its : Procedure) → procedure_by ps p ≡ Some its → Entered own l p its
+
+module _ (activations : List Activation) (h : Home) where
+  -- the activation of a frame has its variables, each a slot, which live in its frame behind the mark
+  pub record HasLocals (f : Frame) : Type 0 where
+    pub its : Activation
+    pub runs : slice_get activations f.activation ≡ Some its
+    pub slots : its.slots ≡ map own_slot (locals_in f)
+    pub variables : (x offset : ℕ) (t : Shape) → slice_get (offsets_from 4 (locals_in f)) x ≡ Some offset → slice_get (locals_in f) x ≡ Some t → is_there t ≡ true
+        → (h.shape (Local f.activation x) ≡ t) × (h.base (Local f.activation x) ≡ f.at + offset)
+
+  -- frames have different activations
+  abbrev pub EachLocal : List Frame → Type 0
+  EachLocal [] = Unit {0}
+  EachLocal (f ∷ fs) = HasLocals f × (list_any (is_of f.activation) fs ≡ false) × EachLocal fs
 
 module _ (library : List Resolved) (loaded : List ℕ) (table : List Module) (activations : List Activation) (h : Home) where
   -- A frame's module is loaded, its activation runs in it, and its variables live where its layout says. The words of its strings, behind
@@ -110,7 +128,7 @@ module _ (library : List Resolved) (loaded : List ℕ) (table : List Module) (ac
     pub entered : IsNamed f (procedure_name (loaded_at library loaded f.number) f.procedure)
     pub piece : IsPiece f
     pub size : f.layout.frame ≡ frame_of (loaded_at library loaded f.number) f.procedure
-    pub procedures : f.layout.scope.procedures ≡ map around_of (procedures_of (loaded_at library loaded f.number))
+    pub procedures : f.layout.scope.procedures ≡ map outline_of (procedures_of (loaded_at library loaded f.number))
     pub codes : HasCodes f.own (procedures_of (loaded_at library loaded f.number)) f.layout
     pub variables : (x offset : ℕ) (t : Shape) → slice_get f.layout.offsets x ≡ Some offset → slice_get f.layout.scope.variables x ≡ Some t
         → (h.shape (Global f.number x) ≡ t) × (h.base (Global f.number x) ≡ f.own.base + offset)
@@ -131,6 +149,7 @@ module _ (library : List Resolved) (loaded : List ℕ) (table : List Module) (ac
     pub at : b.at ≡ low
     pub mark : 4 ≤ b.layout.frame
     pub chain : b.layout.scope.chain ≡ []
+    pub display : b.display ≡ []
 
   abbrev pub EachComes : ℕ → List Frame → Type 0
   EachComes low [] = Unit {0}
@@ -146,6 +165,10 @@ pub record IsHeap (base : Root → ℕ) (shape : Root → Shape) (addresses : Li
   pub clear : (w : ℕ) → w < length addresses → limit + 2 ≤ get_or addresses w 0
   pub distinct : (w v : ℕ) → w < length addresses → v < length addresses → get_or addresses w 0 ≡ get_or addresses v 0 → w ≡ v
   pub rest : limit + heap_words objects workspaces ≡ 65535
+
+-- variables live in activations alone that there are
+abbrev pub IsUnborn : (Root → Shape) → List Activation → Type 0
+IsUnborn shape activations = (a x : ℕ) → length activations ≤ a → shape (Local a x) ≡ Absent
 
 -- no level waits: the running one is the first
 pub record IsFirst (waiting : List Level) (below : List Kept) : Type 0 where
@@ -177,7 +200,9 @@ module _ (ctx : Setting) where
     pub comes : EachComes library loaded table activations h st.base st.bodies
     pub stands : Stands h.owner st.base r.top st.frame st.callers
     pub links : Chained h.shadow activations st.frame st.callers
+    pub locals : EachLocal activations h (frames_of st)
     pub room : (a : ℕ) → r.top ≤ a → a < st.limit → h.owner a ≡ Free st.base
+    pub based : 1 ≤ st.base
     pub low : r.top ≤ st.limit
     pub high : st.limit ≤ 65535
 
@@ -194,6 +219,7 @@ module _ (ctx : Setting) where
       (workspaces : List Workspace) (modules : List Module) (kept below : List Kept) (marked : Bool) (store : List ℕ) (stack : StackRegisters) : Type 0 where
     pub mem : Mem h cells store
     pub heap : IsHeap h.base h.shape h.workspaces objects workspaces st.limit
+    pub unborn : IsUnborn h.shape activations
     pub program : IsProgram modules stack.running marked
     pub standing : Standing stack
     pub loaded_are : numbers ≡ loaded
@@ -253,16 +279,27 @@ pub record IsFull (library : List Resolved) (base : ℕ) (s t : Source) (run : R
   pub world : run.world ≡ s.world
   pub short : Short library base t kind
 
--- what a step of the stack between two words may change: the words between them and their owners, but those that never change, and no root
--- or workspace that lives
-pub record Touches (h h' : Home) (low high : ℕ) : Type 0 where
+-- no variable of these frames
+abbrev pub beyond : List Frame → Root → Bool
+beyond fs (Local a x) = not (list_any (is_of a) fs)
+beyond fs r = true
+
+-- What a step of the stack of these frames between two words may change: the words between them and their owners, but those that never
+-- change, and no root or workspace that lives, but the frames' variables.
+pub record Touches (h h' : Home) (fs : List Frame) (low high : ℕ) : Type 0 where
   pub owner : (a : ℕ) → (a < low) ⊎ (high ≤ a) → h'.owner a ≡ h.owner a
   pub shadow : (a : ℕ) → (a < low) ⊎ (high ≤ a) → h'.shadow a ≡ h.shadow a
-  pub base : (r : Root) → lives h r ≡ true → h'.base r ≡ h.base r
-  pub shape : (r : Root) → lives h r ≡ true → h'.shape r ≡ h.shape r
+  pub base : (r : Root) → beyond fs r ≡ true → lives h r ≡ true → h'.base r ≡ h.base r
+  pub shape : (r : Root) → beyond fs r ≡ true → lives h r ≡ true → h'.shape r ≡ h.shape r
   pub targets : h'.targets ≡ h.targets
   pub workspaces : Extends h'.workspaces h.workspaces
   pub fixed : (a : ℕ) → h.owner a ≡ Fixed → (h'.owner a ≡ Fixed) × (h'.shadow a ≡ h.shadow a)
+
+-- a stack comes from another one: its limit doesn't rise, and its frames are of the other's activations, or of new ones
+pub record Succeeds (next stack : Stack) (activations : List Activation) : Type 0 where
+  pub base : next.base ≡ stack.base
+  pub limit : next.limit ≤ stack.limit
+  pub frames : (a : ℕ) → list_any (is_of a) (frames_of next) ≡ true → (list_any (is_of a) (frames_of stack) ≡ true) ⊎ (length activations ≤ a)
 
 -- One step of the source, in so many steps of the machine, with so many jumps owed then, both within a budget, or else a limit. The world changes in
 -- the last step alone; the home changes between the stack's base and its limit alone, and the limit doesn't rise.
@@ -275,8 +312,8 @@ pub record Goes (ctx : Setting) (s : Source) (k : List Item) (m : State) (budget
   pub quiet : (i : ℕ) → i < steps → IsStill s.world (mrun i (running m s.world))
   pub lands : Lands (record ctx { activations = activations; home = home; stack = stack }) (next ctx.library (record s { items = k; phase = Going })).phase (next ctx.library (record s { items = k; phase = Going })) (mrun steps (running m s.world)) later
       ⊎ IsFull ctx.library ctx.stack.base (record s { items = k; phase = Going }) (next ctx.library (record s { items = k; phase = Going })) (mrun steps (running m s.world))
-  pub touch : Touches ctx.home home ctx.stack.base ctx.stack.limit
-  pub same : (stack.base ≡ ctx.stack.base) × (stack.limit ≤ ctx.stack.limit)
+  pub touch : Touches ctx.home home (frames_of ctx.stack) ctx.stack.base ctx.stack.limit
+  pub same : Succeeds stack ctx.stack ctx.activations
   pub grown : Grows activations ctx.activations
   pub cost : steps + later ≤ budget
   pub falls : steps ≡ 0 → stutter (next ctx.library (record s { items = k; phase = Going })).items < stutter k

@@ -64,8 +64,8 @@ extends_self addresses w less = (less, refl)
 
 -- the roots that live, as far as a home tells
 abbrev pub lives : Home → Root → Bool
-lives h (Object o) = is_there (h.shape (Object o))
-lives h _ = true
+lives h (Global m x) = true
+lives h r = is_there (h.shape r)
 
 -- a value of a kind that has no references
 plain_value : (k : Kind) (v : Scalar) → is_plain k ≡ true → within k v ≡ true → is_reference v ≡ false

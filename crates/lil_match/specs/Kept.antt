@@ -9,7 +9,7 @@ use Rattle.lil_meaning.specs.Steps.{outer_of, surrounding}
 use Rattle.lil_mcode.specs.Table.{Module, StackRegisters, State, stack_of}
 use Rattle.lil_table.specs.Rows.{Layout, holding, Access, OnTop, loop_place}
 use Rattle.lil_match.specs.{Parts.no, Homes.{word_for, word_kept, refers_kept, Refers, plain_refers, takes_plain, Extends, extends_self, lives, address, shape_there, Owner, Own, Fixed, own_fixed, Home, mem_shadowed, shadowed, replaced}}
-use Rattle.lil_match.specs.{Waits.{Mode, Quiet, ValueOf, AtPlace, Reach, AfterJumps, Onward, Part, Around, outside, Frame, frames_of, Setting, at_home, renewed, inside_with, with_frames, DatumOn, DataOn, sees, is_of, TurnsTask, Reaches, HasPlace, HasSet, needs, Behind, RowsOf, Rows}, Known.{known_kept, each_known, each_comes}}
+use Rattle.lil_match.specs.{Waits.{Mode, Quiet, ValueOf, AtPlace, Reach, AfterJumps, Onward, Part, Around, Frame, own_words, outside, frames_of, Setting, at_home, renewed, inside_with, with_frames, DatumOn, DataOn, sees, is_of, TurnsTask, Reaches, HasPlace, HasSet, needs, Behind, RowsOf, Rows}, Known.{known_kept, each_known, each_comes, sees_more, each_local}}
 use Rattle.lil_match.specs.Goes.{OwnWords, Stands, Grows, Linked, Chained, EachComes, Standing, Shared, Touches}
 
 -- homes that agree on the roots that live and that frames can name, and on the machine's own words from one place to another
@@ -24,15 +24,6 @@ pub record Keeps (h x : Home) (fs : List Frame) (low top : ℕ) : Type 0 where
 abbrev pub EachAbove : ℕ → List Frame → Type 0
 EachAbove low [] = Unit {0}
 EachAbove low (f ∷ fs) = (low ≤ f.at + 4) × EachAbove low fs
-
-or_later : (a b : Bool) → b ≡ true → (a || b) ≡ true
-or_later true b e = refl
-or_later false b e = e
-
-sees_more : (f : Frame) (fs : List Frame) (r : Root) → sees fs r ≡ true → sees (f ∷ fs) r ≡ true
-sees_more f fs (Local a x) e = or_later (is_of a f) (list_any (is_of a) fs) e
-sees_more f fs (Global m x) e = refl
-sees_more f fs (Object o) e = refl
 
 pub keeps_under : (h x : Home) (f : Frame) (fs : List Frame) (low top less : ℕ) → less ≤ top → Keeps h x (f ∷ fs) low top → Keeps h x fs low less
 keeps_under h x f fs low top less le keeps = record {
@@ -58,7 +49,7 @@ place_lives h place t living there = by place.root (ap is_there living ∙ there
   where
     by : (r : Root) → is_there (part_at (h.shape r) place.path) ≡ true → lives h r ≡ true
     by (Global m x) e = refl
-    by (Local a x) e = refl
+    by (Local a x) e = root_there (h.shape (Local a x)) place.path e
     by (Object o) e = root_there (h.shape (Object o)) place.path e
 
 -- a part that is met in another home, and leads to the same
@@ -78,7 +69,7 @@ module _ (ctx : Setting) (acts : List Activation) (x : Home) (n low top : ℕ) (
         seen = r.seen;
         living = ap (λ (t : Shape). part_at t place.path) same ∙ r.living;
         there = r.there;
-        at = subst (λ (a : ℕ). Reaches ctx.stack.frame.own.base b a stack below) at r.at;
+        at = subst (λ (a : ℕ). Reaches ctx.stack.frame.own.base ctx.stack.frame.display b a stack below) at r.at;
       }
 
   -- the word of a value, and what it refers to
@@ -212,10 +203,12 @@ behind_kept k acts rows ctx x n low c above keeps r = by ctx.stack.callers ctx.s
         record {
           body = r.body;
           low = r.low;
+          plain = r.plain;
+          bare = r.bare;
           start = r.start;
           enter = r.enter;
-          then = rows (with_frames ctx b [] bs) x n low above.1 Quiet r.start [] c outside
-              (keeps_under ctx.home x ctx.stack.frame (b ∷ bs) low (ctx.stack.frame.at + 4) (b.at + 4) (omega (arith, r.low)) keeps) r.then;
+          then = rows (with_frames ctx b [] bs) x n low above.1 Quiet r.start [] c (outside b)
+              (keeps_under ctx.home x ctx.stack.frame (b ∷ bs) low (ctx.stack.frame.at + 4) (b.at + loop_place (own_words b)) (omega (arith, r.low, r.bare)) keeps) r.then;
         }
     by [] [] above keeps r = r
 
@@ -356,8 +349,13 @@ stands_above owner base top f (g ∷ gs) bs s above =
 
 -- frames stand as long as their words are the machine's own
 words_kept : (owner new : ℕ → Owner) (base top : ℕ) (f : Frame) → base ≤ f.at → ((a : ℕ) → base ≤ a → a < top → new a ≡ owner a) → OwnWords owner f top → OwnWords new f top
-words_kept owner new base top f low same w =
-    record { mark = w.mark; below = w.below; most = w.most; own = λ i l. same (f.at + i) (omega (arith, low)) l ∙ w.own i l }
+words_kept owner new base top f low same w = record {
+  mark = w.mark;
+  below = w.below;
+  most = w.most;
+  own = λ i free l. same (f.at + i) (omega (arith, low)) l ∙ w.own i free l;
+  mine = λ i l. let here = same (f.at + i) (omega (arith, low)) l in ⊎_elim (λ own. inl (here ∙ own)) (λ one. inr (one.0, here ∙ one.1)) (w.mine i l);
+}
 
 pub stands_kept : (owner new : ℕ → Owner) (base top : ℕ) (f : Frame) (gs : List Frame) → ((a : ℕ) → base ≤ a → a < top → new a ≡ owner a) → Stands owner base top f gs → Stands new base top f gs
 stands_kept owner new base top f [] same s = (words_kept owner new base top f (omega (arith, s.1)) same s.0, s.1)
@@ -378,8 +376,19 @@ all_above ctx r s = comes_above ctx.library ctx.loaded ctx.table ctx.activations
 pub stack_above : (ctx : Setting) (r : StackRegisters) → Standing ctx r → (ctx.stack.base ≤ ctx.stack.frame.at) × EachAbove (ctx.stack.base + 4) (frames_of ctx.stack)
 stack_above ctx r s = stands_above ctx.home.owner ctx.stack.base r.top ctx.stack.frame ctx.stack.callers ctx.stack.bodies s.stands (all_above ctx r s)
 
--- the words of the FORs and WITHs around lie in the frame
-pub loops_fit : (k : List Item) (ctx : Setting) (t : Mode) (p : ℕ) (stack : List ℕ) (c : ℕ) (a : Around) → 4 ≤ ctx.stack.frame.layout.frame → Rows ctx k t p stack c a
+-- the words of the FORs and WITHs around lie behind those of the variables
+pub loops_behind : (k : List Item) (ctx : Setting) (t : Mode) (p : ℕ) (stack : List ℕ) (c : ℕ) (a : Around) → Rows ctx k t p stack c a → own_words ctx.stack.frame ≤ a.taken
+loops_behind [] ctx t p stack c a r = absurd r
+loops_behind (Perform (Looping body) ∷ k) ctx t p stack c a r = omega (arith, ap (λ (o : Around). o.taken) r.there.is, loops_behind k ctx _ _ _ _ r.there.outer r.there.then)
+loops_behind (Perform (Turns n kind z step left body) ∷ k) ctx t p stack c a r =
+    ⊎_elim (λ w. loops_behind k ctx _ _ _ _ _ w.then) (λ w. omega (arith, ap (λ (o : Around). o.taken) w.around, loops_behind k ctx _ _ _ _ w.outer w.then)) r.there
+loops_behind (Perform (Holding place) ∷ k) ctx t p stack c a r =
+    omega (arith, ap (λ (o : Around). o.taken) r.there.around, loops_behind k r.there.before _ _ _ _ r.there.outer r.there.then, ap (λ (c : Setting). own_words c.stack.frame) r.there.is)
+loops_behind (Perform (End n) ∷ k) ctx t p stack c a r = omega (arith, ap (λ (o : Around). o.taken) r.there.alone)
+loops_behind (i ∷ k) ctx t p stack c a r = loops_behind k ctx _ _ _ _ _ r.there.then
+
+-- and in the frame
+pub loops_fit : (k : List Item) (ctx : Setting) (t : Mode) (p : ℕ) (stack : List ℕ) (c : ℕ) (a : Around) → 4 + own_words ctx.stack.frame ≤ ctx.stack.frame.layout.frame → Rows ctx k t p stack c a
     → loop_place a.taken ≤ ctx.stack.frame.layout.frame
 loops_fit [] ctx t p stack c a mark r = absurd r
 loops_fit (Perform (Looping body) ∷ k) ctx t p stack c a mark r =
@@ -392,11 +401,11 @@ loops_fit (Perform (End n) ∷ k) ctx t p stack c a mark r = omega (arith, ap (�
 loops_fit (i ∷ k) ctx t p stack c a mark r = loops_fit k ctx _ _ _ _ _ mark r.there.then
 
 -- activations stay linked as long as the first words of their frames stay
-linked_kept : (old new : ℕ → ℕ) (acts more : List Activation) → Grows more acts → (a at : ℕ) (es : List ℕ) (gs : List Frame) → new at ≡ old at → Linked old acts a at es gs → Linked new more a at es gs
-linked_kept old new acts more grows a at [] gs same l = tt
-linked_kept old new acts more grows a at (p ∷ []) gs same l = tt
-linked_kept old new acts more grows a at (p ∷ e ∷ es) gs same l =
-    record { to = l.to; among = l.among; outer = outer_kept (slice_get acts a) refl l.outer; chain = l.chain; word = same ∙ l.word }
+linked_kept : (old new : ℕ → ℕ) (acts more : List Activation) → Grows more acts → (a number at : ℕ) (display es : List ℕ) (gs : List Frame) → new at ≡ old at → Linked old acts a number at display es gs → Linked new more a number at display es gs
+linked_kept old new acts more grows a number at display [] gs same l = l
+linked_kept old new acts more grows a number at display (p ∷ []) gs same l = l
+linked_kept old new acts more grows a number at display (p ∷ e ∷ es) gs same l =
+    record { to = l.to; among = l.among; outer = outer_kept (slice_get acts a) refl l.outer; owner = l.owner; chain = l.chain; word = same ∙ l.word; display = l.display }
   where
     outer_kept : (o : Option Activation) → slice_get acts a ≡ o → outer_of o ≡ Some l.to.activation → surrounding more a ≡ Some l.to.activation
     outer_kept None e f = cc
@@ -405,15 +414,15 @@ linked_kept old new acts more grows a at (p ∷ e ∷ es) gs same l =
 pub chained_kept : (old new : ℕ → ℕ) (acts more : List Activation) → Grows more acts → (owner : ℕ → Owner) (base top : ℕ) (f : Frame) (gs : List Frame) → Stands owner base top f gs
     → ((a : ℕ) → base ≤ a → a ≤ f.at → new a ≡ old a) → Chained old acts f gs → Chained new more f gs
 chained_kept old new acts more grows owner base top f [] stands same c =
-    linked_kept old new acts more grows f.activation f.at f.layout.scope.chain [] (same f.at (stands_above owner base top f [] [] stands tt).0 (omega arith)) c
+    linked_kept old new acts more grows f.activation f.number f.at f.display f.layout.scope.chain [] (same f.at (stands_above owner base top f [] [] stands tt).0 (omega arith)) c
 chained_kept old new acts more grows owner base top f (g ∷ gs) stands same c =
     let low = first_words owner base f.at g gs stands.1 in (
-      linked_kept old new acts more grows f.activation f.at f.layout.scope.chain (g ∷ gs) (same f.at (stands_above owner base top f (g ∷ gs) [] stands tt).0 (omega arith)) c.0,
+      linked_kept old new acts more grows f.activation f.number f.at f.display f.layout.scope.chain (g ∷ gs) (same f.at (stands_above owner base top f (g ∷ gs) [] stands tt).0 (omega arith)) c.0,
       chained_kept old new acts more grows owner base f.at g gs stands.1 (λ a from below. same a from (omega (arith, below, low.below))) c.1,
     )
 
--- ---- one of the running frame's own words is set
-module _ (ctx : Setting) (s : Source) (m : State) (shared : Shared ctx s m) (i w : ℕ) (less : i < ctx.stack.frame.layout.frame) where
+-- ---- one of the running frame's own words behind its variables is set
+module _ (ctx : Setting) (s : Source) (m : State) (shared : Shared ctx s m) (i w : ℕ) (free : 4 + own_words ctx.stack.frame ≤ i) (less : i < ctx.stack.frame.layout.frame) where
   open ctx use {home as h, stack as st}
 
   abbrev at : ℕ
@@ -423,7 +432,7 @@ module _ (ctx : Setting) (s : Source) (m : State) (shared : Shared ctx s m) (i w
   words = first_words h.owner st.base m.top st.frame st.callers shared.standing.stands
 
   pub own_word : h.owner (st.frame.at + i) ≡ Own
-  own_word = words.own i (omega (arith, words.below, less))
+  own_word = words.own i (inr free) (omega (arith, words.below, less))
 
   pub own_inside : (st.base ≤ st.frame.at + i) × (st.frame.at + i < st.limit)
   own_inside = (omega (arith, (stack_above ctx (stack_of m) shared.standing).0), omega (arith, words.below, less, shared.standing.low))
@@ -441,26 +450,29 @@ module _ (ctx : Setting) (s : Source) (m : State) (shared : Shared ctx s m) (i w
   fixed_kept : (a : ℕ) → h.owner a ≡ Fixed → (h.owner a ≡ Fixed) × (replaced h.shadow at w a ≡ h.shadow a)
   fixed_kept a e = (e, other_word a (λ same. own_fixed (sym own_word ∙ ap h.owner same ∙ e)))
 
-  pub shared_shadowed : 0 < i → Shared (at_home ctx (shadowed ctx.home (ctx.stack.frame.at + i) w)) s (record m { store = set m.store (ctx.stack.frame.at + i) w })
-  shared_shadowed some =
+  pub shared_shadowed : Shared (at_home ctx (shadowed ctx.home (ctx.stack.frame.at + i) w)) s (record m { store = set m.store (ctx.stack.frame.at + i) w })
+  shared_shadowed =
       let g = shared.standing in
       record {
         mem = mem_shadowed h s.cells m.store at w own_word (omega (arith, own_inside.1, g.high)) shared.mem;
         loaded_are = shared.loaded_are;
         levels = shared.levels;
         heap = shared.heap;
+        unborn = shared.unborn;
         program = record { table_is = shared.program.table_is; known = shared.program.known; piece = shared.program.piece; running_is = shared.program.running_is; marked_is = shared.program.marked_is };
         standing = record {
           frame_is = g.frame_is;
           base_is = g.base_is;
           limit_is = g.limit_is;
           bodies_are = g.bodies_are;
-          known = known_kept ctx.library ctx.loaded ctx.table ctx.activations ctx.activations (λ i b e. e) h (shadowed h at w) (λ r e. refl) (λ r e. refl) refl fixed_kept st.frame g.known;
-          callers = each_known ctx.library ctx.loaded ctx.table ctx.activations ctx.activations (λ i b e. e) h (shadowed h at w) (λ r e. refl) (λ r e. refl) refl fixed_kept st.callers g.callers;
-          comes = each_comes ctx.library ctx.loaded ctx.table ctx.activations ctx.activations (λ i b e. e) h (shadowed h at w) (λ r e. refl) (λ r e. refl) refl fixed_kept st.base st.bodies g.comes;
+          known = known_kept ctx.library ctx.loaded ctx.table ctx.activations ctx.activations (λ i b e. e) h (shadowed h at w) (λ n y. refl) (λ n y. refl) refl fixed_kept st.frame g.known;
+          callers = each_known ctx.library ctx.loaded ctx.table ctx.activations ctx.activations (λ i b e. e) h (shadowed h at w) (λ n y. refl) (λ n y. refl) refl fixed_kept st.callers g.callers;
+          comes = each_comes ctx.library ctx.loaded ctx.table ctx.activations ctx.activations (λ i b e. e) h (shadowed h at w) (λ n y. refl) (λ n y. refl) refl fixed_kept st.base st.bodies g.comes;
           stands = g.stands;
-          links = chained_kept h.shadow (replaced h.shadow at w) ctx.activations ctx.activations (λ j b e. e) h.owner st.base m.top st.frame st.callers g.stands (λ a from below. other_word a (λ e. omega (arith, e, below, some))) g.links;
+          links = chained_kept h.shadow (replaced h.shadow at w) ctx.activations ctx.activations (λ j b e. e) h.owner st.base m.top st.frame st.callers g.stands (λ a from below. other_word a (λ e. omega (arith, e, below, free))) g.links;
+          locals = each_local ctx.activations ctx.activations (λ i b e. e) h (shadowed h at w) (frames_of st) (λ r s e. refl) (λ r s e. refl) g.locals;
           room = g.room;
+          based = g.based;
           low = g.low;
           high = g.high;
         };
@@ -469,12 +481,12 @@ module _ (ctx : Setting) (s : Source) (m : State) (shared : Shared ctx s m) (i w
         kept_are = shared.kept_are;
       }
 
-  pub touches_shadowed : Touches ctx.home (shadowed ctx.home (ctx.stack.frame.at + i) w) ctx.stack.base ctx.stack.limit
+  pub touches_shadowed : Touches ctx.home (shadowed ctx.home (ctx.stack.frame.at + i) w) (frames_of ctx.stack) ctx.stack.base ctx.stack.limit
   touches_shadowed = record {
     owner = λ a o. refl;
     shadow = λ a o. other_word a (λ e. ⊎_elim (λ (l : a < st.base). omega (arith, own_inside.0, e, l)) (λ (g : st.limit ≤ a). omega (arith, own_inside.1, e, g)) o);
-    base = λ r e. refl;
-    shape = λ r e. refl;
+    base = λ r b e. refl;
+    shape = λ r b e. refl;
     targets = refl;
     workspaces = extends_self h.workspaces;
     fixed = fixed_kept;

@@ -1,11 +1,11 @@
 -- What is around the running frame's WITHs: the same but for the records that its layout holds.
-use Rattle.std.proofs.Common.{◌≡◌, ℕ, ◌+◌, Some, List, [], ◌∷◌, length, get_or, refl, sym, ap, ◌∙◌, subst, arith}
-use Rattle.std.specs.Prelude.{slice_get}
-use Rattle.lil_resolved.specs.{Kinds.Shape, Resolved.{Procedure, Resolved}}
-use Rattle.lil_meaning.specs.{Items.{Item, Activation, Source, loaded_at}, Need.frame_of, Steps.{owner_of, procedure_of, procedures_of, procedure_name}}
+use Rattle.std.proofs.Common.{◌≡◌, ℕ, ◌+◌, ◌<◌, ◌≤◌, inl, inr, Some, List, [], ◌∷◌, ◌++◌, length, get_or, refl, sym, ap, ◌∙◌, subst, ⊎_elim, arith}
+use Rattle.std.specs.Prelude.{slice_get, map}
+use Rattle.lil_resolved.specs.{Kinds.{Shape, all_words, locals_at, offsets_from}, Resolved.{Procedure, Resolved}}
+use Rattle.lil_meaning.specs.{Items.{Root, Global, Local, Object, Item, Activation, Source, loaded_at}, Need.frame_of, Steps.{own_slot, owner_of, procedure_of, procedures_of, procedure_name}}
 use Rattle.lil_mcode.specs.Table.{Module, State, StackRegisters, stack_of}
 use Rattle.lil_table.specs.Rows.{Layout, holding}
-use Rattle.lil_match.specs.{Homes.Home, Goes.{IsNamed, IsPiece, OwnWords, Stands, Linked, Chained, IsPart, module_part, HasCodes, IsKnown, Standing, Shared, Goes}, Waits.{Frame, Setting, inside_with}}
+use Rattle.lil_match.specs.{Homes.Home, Goes.{IsNamed, IsPiece, OwnWords, Stands, Linked, Chained, IsPart, module_part, HasCodes, IsKnown, Standing, EachLocal, beyond, Shared, Goes}, Waits.{Frame, Setting, inside_with}}
 
 -- the running frame with another layout
 abbrev pub with_layout : Setting → Layout → Setting
@@ -25,9 +25,9 @@ codes_part own ps l m part codes p its is =
     record { inner = e.inner; part = e.part ∙ sym part; frame = e.frame; chain = e.chain; free = e.free; entry = e.entry; there = e.there; after = e.after; within = e.within; apart = e.apart; code = e.code }
 
 -- what is known of a frame is known of another one of the module
-module _ (library : List Resolved) (loaded : List ℕ) (table : List Module) (acts more : List Activation) (h : Home) (f : Frame) (m : Layout) (activation procedure entry after : ℕ) (piece : List ℕ) (at back : ℕ) (part : IsPart f.layout m) where
+module _ (library : List Resolved) (loaded : List ℕ) (table : List Module) (acts more : List Activation) (h : Home) (f : Frame) (m : Layout) (activation procedure entry after : ℕ) (piece : List ℕ) (at : ℕ) (display : List ℕ) (back : ℕ) (part : IsPart f.layout m) where
   abbrev other : Frame
-  other = record { activation = activation; number = f.number; procedure = procedure; own = f.own; entry = entry; after = after; piece = piece; layout = m; at = at; back = back }
+  other = record { activation = activation; number = f.number; procedure = procedure; own = f.own; entry = entry; after = after; piece = piece; layout = m; at = at; display = display; back = back }
 
   strings : m.strings ≡ f.layout.strings
   strings = ap (λ (y : Layout). y.strings) part
@@ -60,6 +60,12 @@ module _ (library : List Resolved) (loaded : List ℕ) (table : List Module) (ac
     own_targets = k.own_targets;
   }
 
+-- the roots that are none of their variables don't hang on a layout
+beyond_laid : (f : Frame) (l : Layout) (fs : List Frame) (r : Root) → beyond (record f { layout = l } ∷ fs) r ≡ beyond (f ∷ fs) r
+beyond_laid f l fs (Global m x) = refl
+beyond_laid f l fs (Local a x) = refl
+beyond_laid f l fs (Object o) = refl
+
 module _ (ctx : Setting) (m : Layout) (alike : IsAlike ctx.stack.frame.layout m) where
   abbrev f : Frame
   f = ctx.stack.frame
@@ -70,19 +76,40 @@ module _ (ctx : Setting) (m : Layout) (alike : IsAlike ctx.stack.frame.layout m)
   same_chain : m.scope.chain ≡ ctx.stack.frame.layout.scope.chain
   same_chain = ap (λ (y : Layout). y.scope.chain) alike
 
+  same_locals : locals_at m.scope 0 ≡ locals_at (ctx.stack.frame.layout.scope) 0
+  same_locals = ap (λ (y : Layout). locals_at y.scope 0) alike
+
   known_laid : IsKnown ctx.library ctx.loaded ctx.table ctx.activations ctx.home ctx.stack.frame → IsKnown ctx.library ctx.loaded ctx.table ctx.activations ctx.home (record (ctx.stack.frame) { layout = m })
-  known_laid k = known_part ctx.library ctx.loaded ctx.table ctx.activations ctx.activations ctx.home f m f.activation f.procedure f.entry f.after f.piece f.at f.back (ap module_part alike) k.its k.runs k.owner k.called (record { there = k.entered.there; apart = k.entered.apart }) (record { is = k.piece.is; within = k.piece.within }) (same_frame ∙ k.size) k
+  known_laid k = known_part ctx.library ctx.loaded ctx.table ctx.activations ctx.activations ctx.home f m f.activation f.procedure f.entry f.after f.piece f.at f.display f.back (ap module_part alike) k.its k.runs k.owner k.called (record { there = k.entered.there; apart = k.entered.apart }) (record { is = k.piece.is; within = k.piece.within }) (same_frame ∙ k.size) k
 
   words_laid : (top : ℕ) → OwnWords ctx.home.owner ctx.stack.frame top → OwnWords ctx.home.owner (record (ctx.stack.frame) { layout = m }) top
-  words_laid top w = record { mark = omega (arith, w.mark, same_frame); below = omega (arith, w.below, same_frame); most = omega (arith, w.most, same_frame); own = w.own }
+  words_laid top w = record {
+    mark = omega (arith, w.mark, same_frame, ap all_words same_locals);
+    below = omega (arith, w.below, same_frame);
+    most = omega (arith, w.most, same_frame);
+    own = λ i free. w.own i (⊎_elim (λ (z : i < 4). inl z) (λ (z : 4 + all_words (locals_at m.scope 0) ≤ i). inr (omega (arith, z, ap all_words same_locals))) free);
+    mine = w.mine;
+  }
+
+  locals_laid : (fs : List Frame) → EachLocal ctx.activations ctx.home (ctx.stack.frame ∷ fs) → EachLocal ctx.activations ctx.home (record (ctx.stack.frame) { layout = m } ∷ fs)
+  locals_laid fs e = (
+    record {
+      its = e.0.its;
+      runs = e.0.runs;
+      slots = e.0.slots ∙ ap (map own_slot) (sym same_locals);
+      variables = λ x o t at typed. e.0.variables x o t (ap (λ (ts : List Shape). slice_get (offsets_from 4 ts) x) (sym same_locals) ∙ at) (ap (λ (ts : List Shape). slice_get ts x) (sym same_locals) ∙ typed);
+    },
+    e.1,
+    e.2,
+  )
 
   stands_laid : (base top : ℕ) (gs : List Frame) → Stands ctx.home.owner base top ctx.stack.frame gs → Stands ctx.home.owner base top (record (ctx.stack.frame) { layout = m }) gs
   stands_laid base top [] s = (words_laid top s.0, s.1)
   stands_laid base top (y ∷ gs) s = (words_laid top s.0, s.1)
 
   links_laid : (gs : List Frame) → Chained ctx.home.shadow ctx.activations ctx.stack.frame gs → Chained ctx.home.shadow ctx.activations (record (ctx.stack.frame) { layout = m }) gs
-  links_laid [] c = subst (λ (es : List ℕ). Linked ctx.home.shadow ctx.activations f.activation f.at es []) (sym same_chain) c
-  links_laid (y ∷ gs) c = (subst (λ (es : List ℕ). Linked ctx.home.shadow ctx.activations f.activation f.at es (y ∷ gs)) (sym same_chain) c.0, c.1)
+  links_laid [] c = subst (λ (es : List ℕ). Linked ctx.home.shadow ctx.activations f.activation f.number f.at f.display es []) (sym same_chain) c
+  links_laid (y ∷ gs) c = (subst (λ (es : List ℕ). Linked ctx.home.shadow ctx.activations f.activation f.number f.at f.display es (y ∷ gs)) (sym same_chain) c.0, c.1)
 
   standing_laid : (r : StackRegisters) → Standing ctx r → Standing (with_layout ctx m) r
   standing_laid r s = record {
@@ -95,7 +122,9 @@ module _ (ctx : Setting) (m : Layout) (alike : IsAlike ctx.stack.frame.layout m)
     comes = s.comes;
     stands = stands_laid ctx.stack.base r.top ctx.stack.callers s.stands;
     links = links_laid ctx.stack.callers s.links;
+    locals = locals_laid (ctx.stack.callers ++ ctx.stack.bodies) s.locals;
     room = s.room;
+    based = s.based;
     low = s.low;
     high = s.high;
   }
@@ -105,6 +134,7 @@ module _ (ctx : Setting) (m : Layout) (alike : IsAlike ctx.stack.frame.layout m)
   shared_laid s x shared = record {
     mem = shared.mem;
     heap = shared.heap;
+    unborn = shared.unborn;
     program = record { table_is = shared.program.table_is; known = shared.program.known; piece = record { is = shared.program.piece.is; within = shared.program.piece.within }; running_is = shared.program.running_is; marked_is = shared.program.marked_is };
     standing = standing_laid (stack_of x) shared.standing;
     loaded_are = shared.loaded_are;
@@ -124,8 +154,16 @@ module _ (ctx : Setting) (m : Layout) (alike : IsAlike ctx.stack.frame.layout m)
     stack = y.stack;
     quiet = y.quiet;
     lands = y.lands;
-    touch = y.touch;
-    same = y.same;
+    touch = record {
+      owner = y.touch.owner;
+      shadow = y.touch.shadow;
+      base = λ r b. y.touch.base r (sym (beyond_laid f m (ctx.stack.callers ++ ctx.stack.bodies) r) ∙ b);
+      shape = λ r b. y.touch.shape r (sym (beyond_laid f m (ctx.stack.callers ++ ctx.stack.bodies) r) ∙ b);
+      targets = y.touch.targets;
+      workspaces = y.touch.workspaces;
+      fixed = y.touch.fixed;
+    };
+    same = record { base = y.same.base; limit = y.same.limit; frames = y.same.frames };
     grown = y.grown;
     cost = y.cost;
     falls = y.falls;

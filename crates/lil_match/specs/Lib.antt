@@ -14,4 +14,5 @@ pub mod Running
 pub mod Splices
 pub mod Steps
 pub mod Tests
+pub mod Variables
 pub mod Waits

@@ -7,8 +7,8 @@ use Rattle.lil_resolved.specs.{Kinds.{Shape, is_there}, Resolved.{Designator, Ex
 use Rattle.lil_meaning.specs.{Items.{Global, Place, loaded_at, Turns, Holding, End, Item, Perform, Activation, Going, Source, Cells, Root, Local, Object, Hole, Evaluate, PlaceOf, Fill}, World.{all_closed, World}, Steps.{current, held_in, owner_of, procedure_of, procedure_name, trap_at, trapped, next}}
 use Rattle.lil_mcode.specs.{declared.machine.Event.{Event, TheVariants.{Trap, Went, Limit}}, Table.{Kept, State, Module, module_at, mstep, act, fetched, performed, going, push_row}}
 use Rattle.lil_table.specs.Rows.{InData, holding, loop_place, IsAt, PlaceAt, ExpressionAt}
-use Rattle.lil_match.specs.{Goes.{IsNamed, Shared, IsTrapped, IsProgram, GoesOn, Lands, IsStill, Touches, Short, IsFull, Grows, Goes}, Running.{running, react, Run, mrun, advanced}, Homes.{address, shape_there, Home, extends_self, lives, Mem}, Kept.sees_laid}
-use Rattle.lil_match.specs.{Waits.{stutter, Setting, frames_of, inside_with, sees, Mode, Around, RowsOf, Rows, HasPlace, HoldingWaits, Stack, frame_of, laid_out, at_home, Quiet, ValueOf, AtPlace, Reach, Jumps, AfterJumps, Ahead, Waiting}, Parts.yes}
+use Rattle.lil_match.specs.{Goes.{IsNamed, Shared, IsTrapped, IsProgram, GoesOn, Lands, IsStill, beyond, Touches, Succeeds, Short, IsFull, Grows, Goes}, Running.{running, react, Run, mrun, advanced}, Homes.{address, shape_there, Home, extends_self, lives, Mem}, Kept.{sees_laid, loops_behind}}
+use Rattle.lil_match.specs.{Waits.{stutter, Frame, own_words, Setting, frames_of, inside_with, sees, Mode, Around, RowsOf, Rows, HasPlace, HoldingWaits, Stack, frame_of, laid_out, at_home, Quiet, ValueOf, AtPlace, Reach, Jumps, AfterJumps, Ahead, Waiting}, Parts.yes}
 use Rattle.lil_base.specs.declared.fault.LimitKind.TheVariants as limit
 use Rattle.lil_asm.specs.{declared.instr.Instr.{Instr, TheVariants.Jmp}, Stretches.{stretch_short, IsInside, decoded_inside}}
 
@@ -28,6 +28,7 @@ pub record Held (ctx : Setting) (place : Place) (shape : Shape) (word : ℕ) : T
   pub living : shape_there ctx.home place ≡ shape
   pub there : is_there shape ≡ true
   pub address : ctx.home.shadow (ctx.stack.frame.at + word) ≡ address ctx.home place
+  pub free : 4 + own_words ctx.stack.frame ≤ word
   pub low : word < ctx.stack.frame.layout.frame
 
 pub record HeldHere (ctx : Setting) (there : Option Place) (shape : Shape) (word : ℕ) : Type 0 where
@@ -44,6 +45,7 @@ held_inside ctx before place shape t n word is h =
       living = h.living;
       there = h.there;
       address = h.address;
+      free = h.free;
       low = h.low;
     })
 
@@ -84,6 +86,7 @@ held_here ctx (Perform (Holding place) ∷ k) t p stack c a r w word shape at ty
             living = y.living ∙ shape_is;
             there = sym (ap is_there shape_is) ∙ y.there;
             address = ap (λ (z : ℕ). ctx.home.shadow (ctx.stack.frame.at + z)) (sym word_is) ∙ y.word;
+            free = omega (arith, word_is, loops_behind k y.before _ _ _ _ y.outer y.then, ap (λ (c : Setting). own_words c.stack.frame) y.is);
             low = omega (arith, word_is, y.room, ap (λ (c : Setting). c.stack.frame.layout.frame) y.is);
           };
         }
@@ -129,19 +132,6 @@ module _ (ctx : Setting) where
         high = place.high;
       }
 
-  -- a variable of the module at hand
-  pub variable_here : (s : Source) (k : List Item) (m : State) → Shared ctx s m → (x offset : ℕ) (t : Shape) → current k ≡ st.frame.activation → slice_get st.frame.layout.offsets x ≡ Some offset
-      → slice_get st.frame.layout.scope.variables x ≡ Some t → is_there t ≡ true → (stack : List ℕ)
-      → HasPlace ctx (InData offset) (record { root = Global (owner_of (slice_get s.activations (current k))) x; path = [] }) t stack stack
-  variable_here s k m shared x offset t close at typed there stack =
-      let here : owner_of (slice_get s.activations (current k)) ≡ st.frame.number =
-      ap (λ (a : ℕ). owner_of (slice_get s.activations a)) close
-      ∙ ap (λ (l : List Activation). owner_of (slice_get l st.frame.activation)) shared.activations_are
-      ∙ shared.standing.known.owner in
-      let v = shared.standing.known.variables x offset t at typed in
-      subst (λ (n : ℕ). let place : Place = record { root = Global n x; path = [] } in HasPlace ctx (InData offset) place t stack stack) (sym here)
-      (record { seen = refl; living = v.0; there = there; at = (omega (arith, v.1), refl) })
-
 -- a step of the machine, as its row says
 pub advances : (m : State) (w : World) (r : Event × State) → mstep m ≡ r → advanced (running m w) ≡ react r.0 r.1 (running m w)
 advances m w r e = ap (λ (x : Event × State). react x.0 x.1 (running m w)) e
@@ -153,22 +143,26 @@ pushes w q m room = yes _ _ _ (lt-ltb (length m.stack) 16 room)
 pub grows_self : (acts : List Activation) → Grows acts acts
 grows_self acts i a e = e
 
+-- a stack that stays
+pub succeeds_self : (y : Stack) (acts : List Activation) → Succeeds y y acts
+succeeds_self y acts = record { base = refl; limit = omega arith; frames = λ a seen. inl seen }
+
 -- a home that stays
-pub untouched : (h : Home) (low high : ℕ) → Touches h h low high
-untouched h low high = record { owner = λ a o. refl; shadow = λ a o. refl; base = λ r e. refl; shape = λ r e. refl; targets = refl; workspaces = extends_self h.workspaces; fixed = λ a e. (e, refl) }
+pub untouched : (h : Home) (fs : List Frame) (low high : ℕ) → Touches h h fs low high
+untouched h fs low high = record { owner = λ a o. refl; shadow = λ a o. refl; base = λ r b e. refl; shape = λ r b e. refl; targets = refl; workspaces = extends_self h.workspaces; fixed = λ a e. (e, refl) }
 
 -- what lives stays
-live_on : (h g : Home) (low high : ℕ) → Touches h g low high → (r : Root) → lives h r ≡ true → lives g r ≡ true
-live_on h g low high t (Global m x) e = refl
-live_on h g low high t (Local a x) e = refl
-live_on h g low high t (Object o) e = ap is_there (t.shape (Object o) e) ∙ e
+live_on : (h g : Home) (fs : List Frame) (low high : ℕ) → Touches h g fs low high → (r : Root) → beyond fs r ≡ true → lives h r ≡ true → lives g r ≡ true
+live_on h g fs low high t (Global m x) b e = refl
+live_on h g fs low high t (Local a x) b e = ap is_there (t.shape (Local a x) b e) ∙ e
+live_on h g fs low high t (Object o) b e = ap is_there (t.shape (Object o) b e) ∙ e
 
-pub touched : (h g i : Home) (low high : ℕ) → Touches h g low high → Touches g i low high → Touches h i low high
-touched h g i low high first second = record {
+pub touched : (h g i : Home) (fs : List Frame) (low high : ℕ) → Touches h g fs low high → Touches g i fs low high → Touches h i fs low high
+touched h g i fs low high first second = record {
   owner = λ a o. second.owner a o ∙ first.owner a o;
   shadow = λ a o. second.shadow a o ∙ first.shadow a o;
-  base = λ r e. second.base r (live_on h g low high first r e) ∙ first.base r e;
-  shape = λ r e. second.shape r (live_on h g low high first r e) ∙ first.shape r e;
+  base = λ r b e. second.base r b (live_on h g fs low high first r b e) ∙ first.base r b e;
+  shape = λ r b e. second.shape r b (live_on h g fs low high first r b e) ∙ first.shape r b e;
   targets = second.targets ∙ first.targets;
   workspaces = λ w less. let one = first.workspaces w less in let two = second.workspaces w one.0 in (two.0, two.1 ∙ one.1);
   fixed = λ a e. let one = first.fixed a e in let two = second.fixed a one.0 in (two.0, two.1 ∙ one.1);
@@ -204,7 +198,7 @@ module _ (ctx : Setting) where
   -- other cells, in another store
   pub shared_with : (s : Source) (m : State) → Shared ctx s m → {cells : Cells} {store : List ℕ} → Mem h cells store → Shared ctx (record s { cells = cells }) (record m { store = store })
   shared_with s m shared mem =
-      record { mem = mem; heap = shared.heap; program = shared.program; standing = shared.standing; activations_are = shared.activations_are; parked_are = shared.parked_are; kept_are = shared.kept_are; loaded_are = shared.loaded_are; levels = shared.levels }
+      record { mem = mem; heap = shared.heap; unborn = shared.unborn; program = shared.program; standing = shared.standing; activations_are = shared.activations_are; parked_are = shared.parked_are; kept_are = shared.kept_are; loaded_are = shared.loaded_are; levels = shared.levels }
 
   -- the source goes on with these items, and the machine from that place
   pub lands_on : (s : Source) (m : State) → Shared ctx s m → (k : List Item) (q : ℕ) (stack : List ℕ) (c : ℕ) (a : Around)
@@ -260,8 +254,8 @@ module _ (ctx : Setting) where
     stack = st;
     lands = inl lands;
     grown = grows_self ctx.activations;
-    touch = untouched h st.base st.limit;
-    same = (refl, omega arith);
+    touch = untouched h (frames_of st) st.base st.limit;
+    same = succeeds_self st ctx.activations;
     cost = omega (arith, less);
     falls = λ e. falls;
   }
@@ -308,7 +302,7 @@ module _ (ctx : Setting) where
 
   -- one step, to another home and stack, with more activations
   pub goes_one_grown : (s : Source) (k : List Item) (m : State) (acts : List Activation) (x : Home) (y : Stack) (budget c : ℕ) (run : Run) → advanced (running m s.world) ≡ run → LandsWith acts x y s k run c
-      → Touches h x st.base st.limit → (y.base ≡ st.base) × (y.limit ≤ st.limit) → Grows acts ctx.activations → c + 1 ≤ budget → Goes ctx s k m budget
+      → Touches h x (frames_of st) st.base st.limit → Succeeds y st ctx.activations → Grows acts ctx.activations → c + 1 ≤ budget → Goes ctx s k m budget
   goes_one_grown s k m acts x y budget c run e lands touch same grown less = record {
     steps = 1;
     later = c;
@@ -330,13 +324,13 @@ module _ (ctx : Setting) where
 
   -- one step, to another home and stack
   pub goes_one_in : (s : Source) (k : List Item) (m : State) (x : Home) (y : Stack) (budget c : ℕ) (run : Run) → advanced (running m s.world) ≡ run → LandsIn x y s k run c
-      → Touches h x st.base st.limit → (y.base ≡ st.base) × (y.limit ≤ st.limit) → c + 1 ≤ budget → Goes ctx s k m budget
+      → Touches h x (frames_of st) st.base st.limit → Succeeds y st ctx.activations → c + 1 ≤ budget → Goes ctx s k m budget
   goes_one_in s k m x y budget c run e lands touch same less = goes_one_grown s k m ctx.activations x y budget c run e lands touch same (grows_self ctx.activations) less
 
   -- one step
   pub goes_one_within : (s : Source) (k : List Item) (m : State) (budget c : ℕ) (run : Run) → advanced (running m s.world) ≡ run → LandsAt s k run c → c + 1 ≤ budget
       → Goes ctx s k m budget
-  goes_one_within s k m budget c run e lands less = goes_one_in s k m h st budget c run e lands (untouched h st.base st.limit) (refl, omega arith) less
+  goes_one_within s k m budget c run e lands less = goes_one_in s k m h st budget c run e lands (untouched h (frames_of st) st.base st.limit) (succeeds_self st ctx.activations) less
 
   -- the same with steps to spare
   pub goes_one : (s : Source) (k : List Item) (m : State) (spare c : ℕ) (run : Run) → advanced (running m s.world) ≡ run → LandsAt s k run c → Goes ctx s k m (c + (1 + spare))
@@ -353,8 +347,8 @@ module _ (ctx : Setting) where
     stack = st;
     quiet = quiet;
     lands = inr (subst (λ (r : Run). IsFull library st.base (record s { items = k; phase = Going }) (next library (record s { items = k; phase = Going })) r) (sym (advances m s.world (Limit kind, m) e)) (record { kind = kind; finish = refl; world = refl; short = short }));
-    touch = untouched h st.base st.limit;
-    same = (refl, omega arith);
+    touch = untouched h (frames_of st) st.base st.limit;
+    same = succeeds_self st ctx.activations;
     grown = grows_self ctx.activations;
     cost = omega (arith, less);
     falls = λ e. absurd (omega arith);
@@ -366,7 +360,7 @@ module _ (ctx : Setting) where
 
   -- one step that shows nothing, and then what goes from there, in another home
   pub goes_after_in : (s : Source) (k : List Item) (m n : State) (x : Home) (budget rest : ℕ) → advanced (running m s.world) ≡ running n s.world
-      → Touches h x st.base st.limit → Goes (at_home ctx x) s k n rest → rest + 1 ≤ budget → Goes ctx s k m budget
+      → Touches h x (frames_of st) st.base st.limit → Goes (at_home ctx x) s k n rest → rest + 1 ≤ budget → Goes ctx s k m budget
   goes_after_in s k m n x budget rest e first g less = record {
     steps = suc g.steps;
     later = g.later;
@@ -377,7 +371,7 @@ module _ (ctx : Setting) where
     lands = ⊎_elim (λ l. inl (subst (λ (r : Run). LandsWith g.activations g.home g.stack s k (mrun g.steps r) g.later) (sym e) l))
         (λ f. inr (subst (λ (r : Run). IsFull library st.base (record s { items = k; phase = Going }) (next library (record s { items = k; phase = Going })) (mrun g.steps r)) (sym e) f)) g.lands;
     grown = g.grown;
-    touch = touched h x g.home st.base st.limit first g.touch;
+    touch = touched h x g.home (frames_of st) st.base st.limit first g.touch;
     same = g.same;
     cost = omega (arith, less, g.cost);
     falls = λ e. absurd (omega arith);
@@ -389,7 +383,7 @@ module _ (ctx : Setting) where
 
   pub goes_after : (s : Source) (k : List Item) (m n : State) (budget rest : ℕ) → advanced (running m s.world) ≡ running n s.world
       → Goes ctx s k n rest → rest + 1 ≤ budget → Goes ctx s k m budget
-  goes_after s k m n budget rest e g less = goes_after_in s k m n h budget rest e (untouched h st.base st.limit) g less
+  goes_after s k m n budget rest e g less = goes_after_in s k m n h budget rest e (untouched h (frames_of st) st.base st.limit) g less
 
   -- a jump of the machine
   pub jumps_to : (m : State) (w : World) → IsProgram ctx m.modules m.running m.marked → (to gap : ℕ) → IsAt piece m.place (Jmp to) gap → to < length piece

@@ -1,18 +1,18 @@
 -- What items need from the code: where they stand, and where the items behind them go on. This speaks of homes and of the expression
 -- stack, and never of the store or of the cells.
 use Rattle.std.proofs.Common.{◌≡◌, ℕ, zero, suc, ◌+◌, ◌-◌, ◌%◌, ◌<◌, ◌≤◌, ◌⊎◌, true, false, Some, None, List, [], ◌∷◌, ◌++◌, length, map, Bool, refl}
-use Rattle.std.specs.Prelude.{ℤ, ◌+ℤ◌, Option, ◌==◌}
+use Rattle.std.specs.Prelude.{ℤ, ◌+ℤ◌, Option, ◌==◌, slice_get}
 use Rattle.std.specs.List.{list_any}
 use Rattle.lil_base.specs.{Words.{between, word_of}, declared.operator.{TwoOp.TwoOp}, Requests.request_number}
-use Rattle.lil_resolved.specs.Kinds.{Workspaces, Kind, OfTruth, OfCharacter, OfSet, OfPointer, base_of, takes_value, least, greatest, numbers, Scalar, within, scalar_word, Shape, Word, Row, is_there, part_at, element_of}
-use Rattle.lil_resolved.specs.{Resolved.{Designator, Variable, Held, Field, Element, Follow, Expression, Constant, Taken, One, Two, Short, Apply, With, WithSpan, Argument, ByValue, OfArray, OfText, Statement, Assign, Copy, Text, Change, Member, New, Allocate, Request, Inside, If, Case, While, Repeat, Loop, Exit, Halt, Return, Call, For, Statements, Empty, Then, Resolved, kind_of, is_relation, result_kind, function_kind, shape_of}, Sizes.{place_depth, depth}}
+use Rattle.lil_resolved.specs.Kinds.{Workspaces, Kind, OfTruth, OfCharacter, OfSet, OfPointer, base_of, takes_value, least, greatest, numbers, Scalar, within, scalar_word, Shape, Word, Row, is_there, part_at, element_of, all_words, locals_at}
+use Rattle.lil_resolved.specs.{Resolved.{Named, Designator, Variable, Held, Field, Element, Follow, Expression, Constant, Taken, One, Two, Short, Apply, With, WithSpan, Argument, ByValue, OfArray, OfText, Statement, Assign, Copy, Text, Change, Member, New, Allocate, Request, Inside, If, Case, While, Repeat, Loop, Exit, Halt, Return, Call, For, Statements, Empty, Then, Resolved, kind_of, is_relation, result_kind, function_kind, shape_of}, Sizes.{place_depth, depth}}
 use Rattle.lil_resolved.specs.Sound.{Parameter, Single, Characters, request_parameters, parameter_of}
 use Rattle.lil_meaning.specs.Items.{Root, Local, Place, Datum, Scalars, Places, Wholes, Opens, Texts, Hole, Get, IndexBy, IndexAt, Pointed, SetTo, StoreAt, CopyTo, CopyFrom, TextTo, NewAt, AllocateBy, AllocateAt, ChangeBy, ChangeAt, OneOf, LeftOf, RightOf, ShortOf, ApplyTo, WithMember, MemberOf, WithMembers, MembersFrom, MembersTo, MemberBy, MemberAt, Pass, PassArray, Choose, Turn, Again, Pick, Hold, StartOf, LimitOf, Task, Do, Passing, Until, Looping, Turns, Holding, End, Item, Value, Evaluate, PlaceOf, Fill, Perform, Activation, Parked, Part as PartOf}
 use Rattle.lil_meaning.specs.Steps.{turns}
 use Rattle.lil_asm.specs.{declared.instr.Instr.TheVariants.{Liw, Ent, Rtn, Jmp, Svc}, Requests.request_words}
 use Rattle.lil_mcode.specs.Table.{Module, Kept, body_entry}
 use Rattle.lil_base.specs.declared.request.Request as request
-use Rattle.lil_table.specs.Rows.{Layout, holding, exactly, HasText, text_words, arguments_words, IsAt, InstrsAt, test_code, Access, InData, OnTop, access_of, address_code, readied, PlaceAt, ExpressionAt, ArgumentsAt, StatementAt, BodyAt, TurnsRow, RoundRow, loop_place, Behind as Past}
+use Rattle.lil_table.specs.Rows.{Layout, holding, framed, exactly, HasText, text_words, arguments_words, IsAt, InstrsAt, test_code, Access, InData, InFrame, OnTop, access_of, address_code, readied, PlaceAt, ExpressionAt, ArgumentsAt, StatementAt, BodyAt, TurnsRow, RoundRow, loop_place, Behind as Past}
 use Rattle.lil_match.specs.Homes.{word_for, Refers, Home, address, shape_there}
 
 -- whether a parameter and a datum are open arrays
@@ -35,25 +35,25 @@ pub data Mode : Type 0 where
   ValueOf : (k : Kind) → Mode
   AtPlace : (d : Designator) → Mode
 
--- the address of a place on an expression stack with others below it, over the data from a word on
-abbrev pub Reaches : (data' : ℕ) → Access → ℕ → List ℕ → List ℕ → Type 0
-Reaches data' (InData o) address stack below = (address ≡ data' + o) × (stack ≡ below)
-Reaches data' OnTop address stack below = stack ≡ address ∷ below
-Reaches data' (Past o) address stack below = (u : ℕ) × (address ≡ u + o) × (stack ≡ u ∷ below)
+-- the address of a place on an expression stack with others below it, over the data from a word on and the frames of the procedures at hand
+abbrev pub Reaches : (data' : ℕ) → (display : List ℕ) → Access → ℕ → List ℕ → List ℕ → Type 0
+Reaches data' display (InData o) address stack below = (address ≡ data' + o) × (stack ≡ below)
+Reaches data' display (InFrame n o) address stack below = (first : ℕ) × (slice_get display n ≡ Some first) × (address ≡ first + o) × (stack ≡ below)
+Reaches data' display OnTop address stack below = stack ≡ address ∷ below
+Reaches data' display (Past o) address stack below = (u : ℕ) × (address ≡ u + o) × (stack ≡ u ∷ below)
 
 -- the expression stack where a place is kept for a second use
 abbrev pub doubled : Access → List ℕ → List ℕ
 doubled (InData o) stack = stack
+doubled (InFrame n o) stack = stack
 doubled OnTop stack = stack ++ stack
 doubled (Past o) stack = stack ++ stack
 
--- what is around the items that are left: the place behind the LOOP, if there is one, and how many words of the frame the FORs and WITHs take
+-- what is around the items that are left: the place behind the LOOP, if there is one, and how many words of the frame the variables, the FORs
+-- and the WITHs take
 pub record Around : Type 0 where
   pub exit : Option ℕ
   pub taken : ℕ
-
-abbrev pub outside : Around
-outside = record { exit = None; taken = 0 }
 
 -- from a place of the code, with an expression stack, with so many jumps owed, inside of what is around
 abbrev pub Reach : Type 1
@@ -95,8 +95,8 @@ pub record Waits (w : Part) (rest : Reach) (c : ℕ) (a : Around) : Type 0 where
   pub then : rest (w.onto part).mode (w.onto part).place (w.onto part).stack c a
 
 -- A procedure or a body that runs or is to run: its activation, its module's number, its own number in there, its module's entry in the
--- table, where its code begins and what is behind it, the code by itself, its layout, the first word of its frame, and the place where its
--- return goes on.
+-- table, where its code begins and what is behind it, the code by itself, its layout, the first word of its frame, those of the frames from it on
+-- outwards by its static links, and the place where its return goes on.
 pub record Frame : Type 0 where
   pub activation : ℕ
   pub number : ℕ
@@ -107,7 +107,19 @@ pub record Frame : Type 0 where
   pub piece : List ℕ
   pub layout : Layout
   pub at : ℕ
+  pub display : List ℕ
   pub back : ℕ
+
+-- the shapes of its variables, and how many words they take
+abbrev pub locals_in : Frame → List Shape
+locals_in f = locals_at f.layout.scope 0
+
+abbrev pub own_words : Frame → ℕ
+own_words f = all_words (locals_in f)
+
+-- what is around its first and its last item
+abbrev pub outside : Frame → Around
+outside f = record { exit = None; taken = own_words f }
 
 -- a stack of frames: its words, the running frame, those under it from the topmost down, and the bodies that are to run behind
 pub record Stack : Type 0 where
@@ -342,14 +354,14 @@ module _ (ctx : Setting) where
     pub set : HasSet u under below
 
   -- the limit of a FOR is there
-  pub record LimitPart (j : Kind) (x : ℕ) (k : Kind) (v : Scalar) (step : ℤ) (body : Statements) (p : ℕ) (stack : List ℕ) (a : Around) : Type 0 where
+  pub record LimitPart (j : Kind) (x : Named) (k : Kind) (v : Scalar) (step : ℤ) (body : Statements) (p : ℕ) (stack : List ℕ) (a : Around) : Type 0 where
     pub first : Expression
     pub row : ValuePart active a (λ b. For x k first b step body) (λ b p q r. r.last) j p []
     pub fits : within (kind_of first) v ≡ true
     pub is : stack ≡ word_for h v ∷ []
 
   -- the turns of a FOR are to begin: its bounds stand on the expression stack
-  pub record BeginWaits (x : ℕ) (k : Kind) (first step : ℤ) (left : ℕ) (body : Statements) (rest : Reach) (t : Mode) (p : ℕ) (stack : List ℕ) (c : ℕ) (a : Around) : Type 0 where
+  pub record BeginWaits (x : Named) (k : Kind) (first step : ℤ) (left : ℕ) (body : Statements) (rest : Reach) (t : Mode) (p : ℕ) (stack : List ℕ) (c : ℕ) (a : Around) : Type 0 where
     pub quiet : t ≡ Quiet
     pub from : Kind
     pub takes : takes_value k from ≡ true
@@ -371,7 +383,7 @@ module _ (ctx : Setting) where
     pub step_is : h.shadow (active.at + loop_place n + 2) ≡ step
 
   -- a turn of a FOR is done: what is around its body, and what is around the FOR
-  pub record NextWaits (x : ℕ) (k : Kind) (z step : ℤ) (left : ℕ) (body : Statements) (rest : Reach) (t : Mode) (p : ℕ) (stack : List ℕ) (c : ℕ) (a : Around) : Type 0 where
+  pub record NextWaits (x : Named) (k : Kind) (z step : ℤ) (left : ℕ) (body : Statements) (rest : Reach) (t : Mode) (p : ℕ) (stack : List ℕ) (c : ℕ) (a : Around) : Type 0 where
     pub quiet : t ≡ Quiet
     pub empty : stack ≡ []
     pub outer : Around
@@ -388,7 +400,7 @@ module _ (ctx : Setting) where
     pub within : end < length piece
     pub then : rest Quiet end [] c outer
 
-  abbrev pub TurnsTask : ℕ → Kind → ℤ → ℤ → ℕ → Statements → Reach → Reach
+  abbrev pub TurnsTask : Named → Kind → ℤ → ℤ → ℕ → Statements → Reach → Reach
   TurnsTask x k z step left body rest t p stack c a = BeginWaits x k z step left body rest t p stack c a ⊎ NextWaits x k z step left body rest t p stack c a
 
   -- a place of a shape that the stack's items may name, as the code has it
@@ -396,7 +408,7 @@ module _ (ctx : Setting) where
     pub seen : sees (frames_of ctx.stack) place.root ≡ true
     pub living : shape_there h place ≡ t
     pub there : is_there t ≡ true
-    pub at : Reaches own.base b (address h place) stack below
+    pub at : Reaches own.base active.display b (address h place) stack below
 
   -- the place of a designator
   abbrev pub Designates : Designator → Place → List ℕ → List ℕ → Type 0
@@ -566,9 +578,11 @@ module _ (ctx : Setting) where
   pub record NextBody (b : Frame) (rest : Reach) (c : ℕ) : Type 0 where
     pub body : active.procedure ≡ 0
     pub low : b.at ≤ active.at
+    pub plain : own_words active ≡ 0
+    pub bare : own_words b ≡ 0
     pub start : ℕ
-    pub enter : IsAt b.piece (body_entry b.own) (Ent b.layout.frame) start
-    pub then : rest Quiet start [] c outside
+    pub enter : IsAt b.piece (body_entry b.own) (Ent (framed b.layout.frame)) start
+    pub then : rest Quiet start [] c (outside b)
 
   -- the frame under this one goes on where the mark says, with its own FORs around
   pub record Back (g : Frame) (rest : Reach) (c : ℕ) : Type 0 where
@@ -608,7 +622,7 @@ module _ (ctx : Setting) where
     pub quiet : t ≡ Quiet
     pub empty : stack ≡ []
     pub activation : n ≡ active.activation
-    pub alone : a ≡ outside
+    pub alone : a ≡ outside active
     pub free : active.layout.held ≡ []
     pub end : ℕ
     pub leave : IsAt piece p Rtn end

@@ -4,7 +4,7 @@ use Rattle.std.specs.Prelude.{◌&&◌, Ok, Err, codes}
 use Rattle.lil_base.specs.{Words.{Cardinal, Integer, between}, declared.{operator.TwoOp.TheVariants.{Equal, Less, AtLeast, Div, Mod}, request.Request.TheVariants.{Write, WriteCard, WriteInt, WriteOct, WriteHex}}}
 use Rattle.lil_base.specs.declared.fault.TrapKind.TheVariants as trap
 use Rattle.lil_resolved.specs.Kinds.{Workspaces, Kind, OfWhole, OfTruth, OfCharacter, OfPointer, OfRange, Scalar, Number, Truth, Character, SetOf, ToObject, Nil, Nothing, within, value_with, Shape, Word, Row, fields_of}
-use Rattle.lil_resolved.specs.Resolved.{Designator, Variable, Field, Element, Chr, Val, Expression, Constant, Taken, ByValue, Statement, Assign, Change, Request, Loop, Halt, Return, For, Statements, Empty, Then, Arms, NoElse, Else, Arm, Resolved, in_order}
+use Rattle.lil_resolved.specs.Resolved.{Named, OfModule, OfLevel, Designator, Variable, Field, Element, Chr, Val, Expression, Constant, Taken, ByValue, Statement, Assign, Change, Request, Loop, Halt, Return, Call, For, Statements, Empty, Then, Arms, NoElse, Else, Arm, Procedure, Resolved, in_order}
 use Rattle.lil_meaning.specs.{Items.{Global, got, Do, Looping, Turns, End, Item, Perform, Ended, Trapped}, World.{World, Single, piece_of, Stream, Channel, OpenBy, Closed, all_closed}, Steps.{applied, function_value, chosen, turns, exited}, Runs.{src, state_of}}
 
 -- ---- the turns of FOR: up to the greatest number, none downward, down by two, and past the limit
@@ -64,7 +64,7 @@ no_arm : (a b : Statements) → chosen (arms a b NoElse) (pos 7) ≡ None
 no_arm a b = refl
 
 -- ---- EXIT leaves all that stands before the end of the LOOP around, and that end
-out_of_turns : (x : ℕ) (kind : Kind) (body inner : Statements) (k : List Item) → exited (Perform (Turns x kind (pos 2) (pos 1) 7 body) ∷ Perform (Looping inner) ∷ k) ≡ k
+out_of_turns : (x : Named) (kind : Kind) (body inner : Statements) (k : List Item) → exited (Perform (Turns x kind (pos 2) (pos 1) 7 body) ∷ Perform (Looping inner) ∷ k) ≡ k
 out_of_turns x kind body inner k = refl
 
 -- ---- whole runs, in a world where nothing is open
@@ -72,7 +72,7 @@ abbrev idle : World → World
 idle w = record w { streams = []; channels = [] }
 
 abbrev c : Designator
-c = Variable 0
+c = Variable (OfModule 0)
 
 abbrev kc : Kind
 kc = OfWhole Cardinal
@@ -93,15 +93,15 @@ an_end : (w : World) → (state_of (program (writes_x ∷ [])) (idle w) 7).phase
 an_end w = refl
 
 -- a FOR without a turn leaves its variable
-no_turn : (w : World) → got (state_of (program (Assign c kc (cardinal 7) ∷ For 0 kc (cardinal 3) (cardinal 1) (pos 1) Empty ∷ [])) (idle w) 20).cells (record { root = Global 1 0; path = [] }) ≡ Number (pos 7)
+no_turn : (w : World) → got (state_of (program (Assign c kc (cardinal 7) ∷ For (OfModule 0) kc (cardinal 3) (cardinal 1) (pos 1) Empty ∷ [])) (idle w) 20).cells (record { root = Global 1 0; path = [] }) ≡ Number (pos 7)
 no_turn w = refl
 
 -- a FOR with turns leaves the value of the last one
-last_turn : (w : World) → got (state_of (program (For 0 kc (cardinal 1) (cardinal 6) (pos 2) Empty ∷ [])) (idle w) 20).cells (record { root = Global 1 0; path = [] }) ≡ Number (pos 5)
+last_turn : (w : World) → got (state_of (program (For (OfModule 0) kc (cardinal 1) (cardinal 6) (pos 2) Empty ∷ [])) (idle w) 20).cells (record { root = Global 1 0; path = [] }) ≡ Number (pos 5)
 last_turn w = refl
 
 -- a FOR over truth values stops where its kind has no more
-a_turn_too_many : (w : World) → (state_of (program (For 0 OfTruth (cardinal 0) (cardinal 2) (pos 1) Empty ∷ [])) (idle w) 20).phase ≡ Trapped (record { kind = trap.Range; «module» = []; procedure = None })
+a_turn_too_many : (w : World) → (state_of (program (For (OfModule 0) OfTruth (cardinal 0) (cardinal 2) (pos 1) Empty ∷ [])) (idle w) 20).phase ≡ Trapped (record { kind = trap.Range; «module» = []; procedure = None })
 a_turn_too_many w = refl
 
 -- ---- INC, DEC, HALT and RETURN
@@ -139,7 +139,7 @@ abbrev table : List Statement → Resolved
 table statements = record { name = []; targets = []; names = (97 ∷ []) ∷ (99 ∷ []) ∷ []; variables = pairs ∷ Word kc ∷ []; procedures = []; body = in_order statements }
 
 abbrev second : Expression → Designator
-second e = Field (Element (Variable 0) digit e) 1
+second e = Field (Element (Variable (OfModule 0)) digit e) 1
 
 abbrev held : World → List Statement → List ℕ → Scalar
 held w statements path = got (state_of (table statements) (idle w) 60).cells (record { root = Global 1 0; path = path })
@@ -152,8 +152,38 @@ no_element : (w : World) → (state_of (table (Assign (second (cardinal 6)) kc (
 no_element w = refl
 
 an_index_that_changes : (w : World)
-    → held w (Assign (Variable 1) kc (cardinal 3) ∷ Change false (second (Taken (Variable 1) kc)) kc (cardinal 2) ∷ Assign (second (cardinal 5)) kc (Taken (second (Taken (Variable 1) kc)) kc) ∷ []) (2 ∷ 1 ∷ []) ≡ Number (pos 2)
+    → held w (Assign (Variable (OfModule 1)) kc (cardinal 3) ∷ Change false (second (Taken (Variable (OfModule 1)) kc)) kc (cardinal 2) ∷ Assign (second (cardinal 5)) kc (Taken (second (Taken (Variable (OfModule 1)) kc)) kc) ∷ []) (2 ∷ 1 ∷ []) ≡ Number (pos 2)
 an_index_that_changes w = refl
+
+-- ---- variables of procedures: zero at each call, also at one from inside; each call has its own, and a procedure inside has those of the call
+-- around it. An outer one that a FOR counts holds its last value afterwards.
+abbrev own : Designator
+own = Variable (OfLevel 0 0)
+
+abbrev outer : Designator
+outer = Variable (OfLevel 1 0)
+
+abbrev procedure : List ℕ → List Statement → Procedure
+procedure around statements = record { name = 112 ∷ []; around = around; locals = Word kc ∷ []; body = in_order statements }
+
+-- p adds its variable to c, changes it, calls q inside, which changes p's variable and has one of its own, and adds p's variable to c again
+abbrev nested : Resolved
+nested = record (program (Call 1 0 ∷ [])) {
+  procedures =
+      procedure [] (Change false c kc (Taken own kc) ∷ Change false own kc (cardinal 3) ∷ Call 2 1 ∷ Change false c kc (Taken own kc) ∷ [])
+      ∷ procedure (1 ∷ []) (Change false outer kc (cardinal 4) ∷ Change false own kc (cardinal 9) ∷ For (OfLevel 1 0) kc (cardinal 5) (cardinal 6) (pos 1) Empty ∷ Change false outer kc (Taken own kc) ∷ [])
+      ∷ [];
+}
+
+a_nested_call : (w : World) → got (state_of nested (idle w) 60).cells (record { root = Global 1 0; path = [] }) ≡ Number (pos 15)
+a_nested_call w = refl
+
+-- each of two calls begins with zero
+abbrev twice : Resolved
+twice = record (program (Call 1 0 ∷ Call 1 0 ∷ [])) { procedures = procedure [] (Change false own kc (cardinal 3) ∷ Change false c kc (Taken own kc) ∷ []) ∷ [] }
+
+two_calls : (w : World) → got (state_of twice (idle w) 40).cells (record { root = Global 1 0; path = [] }) ≡ Number (pos 6)
+two_calls w = refl
 
 -- ---- the end of a level closes its stream first, and then its channels, a step each; a channel of another level stays
 abbrev stream : Stream

@@ -1,14 +1,14 @@
 -- The program of docs/TOUR.md, step by step.
 use Rattle.std.proofs.Common.{◌≡◌, ℕ, pos, List, [], ◌∷◌, ◌++◌, map, refl}
 use Rattle.lil_base.specs.{Words.Cardinal, declared.{operator.TwoOp.TheVariants.{Plus, Times}, request.Request.TheVariants.Write}}
-use Rattle.lil_resolved.specs.{Kinds.{Kind, OfWhole, OfCharacter, Number, Character, Word}, Resolved.{Designator, Variable, Chr, Expression, Constant, Taken, Two, Apply, Argument, ByValue, Assign, Request, Resolved, in_order}}
+use Rattle.lil_resolved.specs.{Kinds.{Kind, OfWhole, OfCharacter, Number, Character, Word}, Resolved.{OfModule, Designator, Variable, Chr, Expression, Constant, Taken, Two, Apply, Argument, ByValue, Assign, Request, Resolved, in_order}}
 use Rattle.lil_meaning.specs.{Items.{Global, Place, got, Source, Item, Scalars, Places, Get, StoreAt, SetTo, LeftOf, RightOf, ApplyTo, Pass, Do, Passing, End, Value, Evaluate, PlaceOf, Fill, Perform, Ended, Going}, World.World, Runs.state_of}
 
 abbrev k : Kind
 k = OfWhole Cardinal
 
 abbrev c : Designator
-c = Variable 0
+c = Variable (OfModule 0)
 
 abbrev n : ℕ → Expression
 n x = Constant k (Number (pos x))

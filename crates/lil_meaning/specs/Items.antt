@@ -1,6 +1,6 @@
 -- Cells, which hold the scalars of variables, and the items that are left to do.
 use Rattle.std.specs.Prelude.{ℕ, zero, suc, ◌+◌, ◌==◌, Bool, false, ◌&&◌, List, [], ◌∷◌, ◌++◌, Option, Some, None, get_or, slice_get, option_and_then, if◌then◌else◌, ℤ}
-use Rattle.lil_resolved.specs.{Kinds.{Scalar, Character, Nothing, zero_of, Shape, Absent, Word, words, part_at, shape_at, Kind}, Resolved.{Resolved, Designator, Function, Expression, Argument, Statement, Statements, Empty, Then, Arms}}
+use Rattle.lil_resolved.specs.{Kinds.{Scalar, Character, Nothing, zero_of, Shape, Absent, Word, words, part_at, shape_at, Kind}, Resolved.{Resolved, Named, Designator, Function, Expression, Argument, Statement, Statements, Empty, Then, Arms}}
 use Rattle.lil_base.specs.declared.{fault.TrapAt.TrapAt, operator.{OneOp.OneOp, TwoOp.TwoOp}, request.Request.Request}
 use Rattle.lil_meaning.specs.World.{World}
 
@@ -72,6 +72,12 @@ zero_in _ = Nothing
 -- the same under a place
 abbrev pub zeros_under : Shape → Under
 zeros_under t q = zero_in (part_at t q)
+
+-- the cells of the variables of a new activation, by its number: zero of its kind in each scalar
+abbrev pub with_locals : Cells → ℕ → List Shape → Cells
+with_locals cells a ts (Local b x) q = if b == a then zeros_under (shape_at ts x) q else cells (Local b x) q
+with_locals cells a ts (Global m x) q = cells (Global m x) q
+with_locals cells a ts (Object o) q = cells (Object o) q
 
 -- an object, as a place
 abbrev pub object_place : ℕ → Place
@@ -186,9 +192,9 @@ pub data Hole : Type 0 where
   -- WITH · DO body END
   Hold : (body : Statements) → Hole
   -- FOR x := · TO b BY step DO body END
-  StartOf : (x : ℕ) (k : Kind) (b : Expression) (step : ℤ) (body : Statements) → Hole
+  StartOf : (x : Named) (k : Kind) (b : Expression) (step : ℤ) (body : Statements) → Hole
   -- FOR x := v TO · BY step DO body END
-  LimitOf : (x : ℕ) (k : Kind) (v : Scalar) (step : ℤ) (body : Statements) → Hole
+  LimitOf : (x : Named) (k : Kind) (v : Scalar) (step : ℤ) (body : Statements) → Hole
 
 -- the items without one
 pub data Task : Type 0 where
@@ -200,7 +206,7 @@ pub data Task : Type 0 where
   -- the end of a LOOP's body, which begins again
   Looping : (body : Statements) → Task
   -- so many turns of a FOR, the next one with this value
-  Turns : (x : ℕ) (k : Kind) (z step : ℤ) (left : ℕ) (body : Statements) → Task
+  Turns : (x : Named) (k : Kind) (z step : ℤ) (left : ℕ) (body : Statements) → Task
   -- the end of a WITH's statements, which holds its record's place
   Holding : (p : Place) → Task
   -- closes the items of an activation

@@ -6,11 +6,11 @@ use Rattle.lil_meaning.specs.Items.{loaded_at, End, Item, Perform, Activation, S
 -- how many words the frame of a procedure takes
 abbrev pub frame_by : Option Procedure → ℕ
 frame_by None = 0
-frame_by (Some q) = frame_words q.body
+frame_by (Some q) = frame_words q.locals q.body
 
 abbrev pub frame_of : Option Resolved → ℕ → ℕ
 frame_of None p = 0
-frame_of (Some m) zero = frame_words m.body
+frame_of (Some m) zero = frame_words [] m.body
 frame_of (Some m) (suc n) = frame_by (slice_get m.procedures n)
 
 -- a call takes its frame, a whole expression stack and its length

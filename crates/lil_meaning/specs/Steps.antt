@@ -8,8 +8,8 @@ use Rattle.lil_base.specs.declared.operator.OneOp.TheVariants as one
 use Rattle.lil_base.specs.declared.request.Request as request
 use Rattle.lil_resolved.specs.Kinds.{Kind, OfWhole, OfTruth, OfCharacter, OfEnumeration, OfRange, is_set, is_pointer, nat_of, position, Scalar, Number, Truth, Character, SetOf, ToObject, ToWorkspace, Nil, Nothing, same_reference, within, scalar_word, value_with, ordinal_of, truth_number, truth_of, members_of, Shape, shape_at}
 use Rattle.lil_resolved.specs.Members.{same_members, included, is_in, united, without, shared_members, unshared, from_to}
-use Rattle.lil_resolved.specs.Resolved.{Designator, Variable, Held, Field, Element, Follow, Function, Abs, Cap, Chr, Odd, Ord, Val, Expression, Constant, Taken, One, Two, Short, Apply, With, WithSpan, Argument, ByValue, OfArray, OfText, Label, Statement, Assign, Copy, Text, Change, Member, New, Allocate, Request, If, Case, While, Repeat, Loop, Exit, Halt, Return, Call, For, Inside, Statements, Arms, NoElse, Else, Arm, Procedure, Resolved, procedure_by, counted_as}
-use Rattle.lil_meaning.specs.Items.{Cells, Global, Place, under, part_of, object_place, stored, got, alone, text_under, zeros_under, targets_of, loaded_at, Datum, Scalars, Places, Wholes, Opens, Texts, Hole, Get, Part, IndexBy, IndexAt, Pointed, SetTo, StoreAt, CopyTo, CopyFrom, TextTo, NewAt, AllocateBy, AllocateAt, ChangeBy, ChangeAt, OneOf, LeftOf, RightOf, ShortOf, ApplyTo, WithMember, MemberOf, WithMembers, MembersFrom, MembersTo, MemberBy, MemberAt, Pass, PassArray, Choose, Turn, Again, Pick, Hold, StartOf, LimitOf, Task, Do, Passing, Until, Looping, Turns, Holding, End, Item, Value, Evaluate, PlaceOf, Fill, Perform, doing, Activation, Parked, Level, Phase, Going, Closing, Ended, Trapped, Source}
+use Rattle.lil_resolved.specs.Resolved.{Named, OfModule, OfLevel, Designator, Variable, Held, Field, Element, Follow, Function, Abs, Cap, Chr, Odd, Ord, Val, Expression, Constant, Taken, One, Two, Short, Apply, With, WithSpan, Argument, ByValue, OfArray, OfText, Label, Statement, Assign, Copy, Text, Change, Member, New, Allocate, Request, If, Case, While, Repeat, Loop, Exit, Halt, Return, Call, For, Inside, Statements, Arms, NoElse, Else, Arm, Procedure, Resolved, procedure_by, counted_as}
+use Rattle.lil_meaning.specs.Items.{Cells, with_locals, Global, Local, Slot, Here, At, Along, Place, under, part_of, object_place, stored, got, alone, text_under, zeros_under, targets_of, loaded_at, Datum, Scalars, Places, Wholes, Opens, Texts, Hole, Get, Part, IndexBy, IndexAt, Pointed, SetTo, StoreAt, CopyTo, CopyFrom, TextTo, NewAt, AllocateBy, AllocateAt, ChangeBy, ChangeAt, OneOf, LeftOf, RightOf, ShortOf, ApplyTo, WithMember, MemberOf, WithMembers, MembersFrom, MembersTo, MemberBy, MemberAt, Pass, PassArray, Choose, Turn, Again, Pick, Hold, StartOf, LimitOf, Task, Do, Passing, Until, Looping, Turns, Holding, End, Item, Value, Evaluate, PlaceOf, Fill, Perform, doing, Activation, Parked, Level, Phase, Going, Closing, Ended, Trapped, Source}
 use Rattle.lil_meaning.specs.World.{World, Given, Single, Characters, serve, closing}
 
 -- the activation at hand: that of the nearest end
@@ -230,9 +230,38 @@ abbrev pub answered : List Resolved → Result Scalar TrapKind → List Item →
 answered library (Ok v) k s = with_items s (Value (Scalars v) ∷ k)
 answered library (Err t) k s = trapped library s t
 
--- a variable of the module at hand
-abbrev pub variable_place : Source → ℕ → Place
-variable_place s x = record { root = Global (module_now s) x; path = [] }
+-- the activation around another one
+abbrev pub outer_of : Option Activation → Option ℕ
+outer_of None = None
+outer_of (Some a) = a.outer
+
+abbrev pub surrounding : List Activation → ℕ → Option ℕ
+surrounding acts a = outer_of (slice_get acts a)
+
+-- the activation so many levels out of another one
+abbrev pub level_out : List Activation → ℕ → ℕ → Option ℕ
+level_out acts a zero = Some a
+level_out acts a (suc n) = option_and_then (surrounding acts) (level_out acts a n)
+
+-- a slot of an activation, as a place: its own cells, or the place that was handed in; an open array isn't one place
+abbrev pub slot_place : (a x : ℕ) → Option Slot → Option Place
+slot_place a x None = None
+slot_place a x (Some Here) = Some (record { root = Local a x; path = [] })
+slot_place a x (Some (At p)) = Some p
+slot_place a x (Some (Along p high)) = None
+
+abbrev pub slots_of : Option Activation → List Slot
+slots_of None = []
+slots_of (Some a) = a.slots
+
+abbrev pub local_place : List Activation → Option ℕ → ℕ → Option Place
+local_place acts None x = None
+local_place acts (Some a) x = slot_place a x (slice_get (slots_of (slice_get acts a)) x)
+
+-- a variable of the module at hand, or of the activation so many levels out of the one at hand
+abbrev pub variable_place : Source → Named → Option Place
+variable_place s (OfModule x) = Some (record { root = Global (module_now s) x; path = [] })
+variable_place s (OfLevel n x) = local_place s.activations (level_out s.activations (current s.items) n) x
 
 -- the place that a WITH around holds, by how many others are between
 abbrev pub nearest : Place → (ℕ → Option Place) → ℕ → Option Place
@@ -245,14 +274,14 @@ held_in (Perform (Holding p) ∷ k) w = nearest p (held_in k) w
 held_in (Perform (End a) ∷ k) w = None
 held_in (i ∷ k) w = held_in k w
 
--- without such a WITH nothing happens
-abbrev pub held_at : Option Place → List Item → Source → Source
-held_at None k s = s
-held_at (Some p) k s = with_items s (Value (Places p) ∷ k)
+-- without such a place nothing happens
+abbrev pub found_at : Option Place → List Item → Source → Source
+found_at None k s = s
+found_at (Some p) k s = with_items s (Value (Places p) ∷ k)
 
 abbrev pub placed : Designator → List Item → Source → Source
-placed (Variable x) k s = with_items s (Value (Places (variable_place s x)) ∷ k)
-placed (Held w) k s = held_at (held_in k w) k s
+placed (Variable v) k s = found_at (variable_place s v) k s
+placed (Held w) k s = found_at (held_in k w) k s
 placed (Field d i) k s = with_items s (PlaceOf d ∷ Fill (Part i) ∷ k)
 placed (Element d kind e) k s = with_items s (PlaceOf d ∷ Fill (IndexBy kind e) ∷ k)
 placed (Follow d n) k s = with_items s (PlaceOf d ∷ Fill Pointed ∷ k)
@@ -288,11 +317,15 @@ picked library None k s = trapped library s trap.Case
 picked library (Some body) k s = with_items s (doing body k)
 
 -- a turn of a FOR: its value, if there is one, is stored as by an assignment, then comes the body and what is behind it
-abbrev pub turned_with : List Resolved → Option Scalar → ℕ → Statements → List Item → Source → Source
-turned_with library (Some v) x body k s = record s { items = doing body k; cells = stored s.cells (variable_place s x) (alone v) }
+abbrev pub turned_at : Option Place → Scalar → Statements → List Item → Source → Source
+turned_at None v body k s = s
+turned_at (Some p) v body k s = record s { items = doing body k; cells = stored s.cells p (alone v) }
+
+abbrev pub turned_with : List Resolved → Option Scalar → Named → Statements → List Item → Source → Source
+turned_with library (Some v) x body k s = turned_at (variable_place s x) v body k s
 turned_with library None x body k s = trapped library s trap.Range
 
-abbrev pub turned_on : List Resolved → ℕ → Kind → ℤ → ℤ → ℕ → Statements → List Item → Source → Source
+abbrev pub turned_on : List Resolved → Named → Kind → ℤ → ℤ → ℕ → Statements → List Item → Source → Source
 turned_on library x kind z step zero body k s = with_items s k
 turned_on library x kind z step (suc left) body k s = turned_with library (value_with kind z) x body (Perform (Turns x kind (z +ℤ step) step left body) ∷ k) s
 
@@ -372,20 +405,7 @@ fill library (Places p) h k s = filled_place library h p k s
 fill library _ h k s = s
 
 -- ---- calls
--- the activation around another one
-abbrev pub outer_of : Option Activation → Option ℕ
-outer_of None = None
-outer_of (Some a) = a.outer
-
-abbrev pub surrounding : List Activation → ℕ → Option ℕ
-surrounding acts a = outer_of (slice_get acts a)
-
--- the activation so many levels out of another one
-abbrev pub level_out : List Activation → ℕ → ℕ → Option ℕ
-level_out acts a zero = Some a
-level_out acts a (suc n) = option_and_then (surrounding acts) (level_out acts a n)
-
--- that around a called procedure which is declared so many levels out
+-- the activation around a called procedure which is declared so many levels out
 abbrev pub declaring : List Activation → ℕ → ℕ → Option ℕ
 declaring acts a zero = None
 declaring acts a (suc n) = level_out acts a n
@@ -394,14 +414,22 @@ abbrev pub procedures_of : Option Resolved → List Procedure
 procedures_of None = []
 procedures_of (Some m) = m.procedures
 
--- a procedure begins: its activation, its statements and its end
-abbrev pub entered : Option Procedure → Activation → List Item → Source → Source
-entered None a k s = s
-entered (Some q) a k s = record s { activations = s.activations ++ a ∷ []; items = doing q.body (Perform (End (length s.activations)) ∷ k) }
+-- each variable of a procedure is one of its own cells
+abbrev pub own_slot : Shape → Slot
+own_slot t = Here
 
 -- the activation of a procedure that the one at hand calls
-abbrev pub called_by : List Activation → (owner here p n : ℕ) → Activation
-called_by acts owner here p n = record { owner = owner; procedure = p; outer = declaring acts here n; slots = [] }
+abbrev pub called_by : List Activation → (owner here p n : ℕ) → Procedure → Activation
+called_by acts owner here p n its = record { owner = owner; procedure = p; outer = declaring acts here n; slots = map own_slot its.locals }
+
+-- a procedure begins: its activation, whose variables are zero, its statements and its end
+abbrev pub entered : Option Procedure → (Procedure → Activation) → List Item → Source → Source
+entered None a k s = s
+entered (Some its) a k s = record s {
+  activations = s.activations ++ a its ∷ [];
+  cells = with_locals s.cells (length s.activations) its.locals;
+  items = doing its.body (Perform (End (length s.activations)) ∷ k);
+}
 
 abbrev pub called : List Resolved → (p n : ℕ) → List Item → Source → Source
 called library p n k s =

@@ -1,5 +1,5 @@
 -- The sorts of values that scalar variables, parameters and expressions have, the scalars themselves, and the shapes of what lies in variables.
-use Rattle.std.specs.Prelude.{◌≡◌, ◌<◌, length, drop, ℕ, zero, suc, ◌+◌, ◌*◌, Bool, true, false, List, [], ◌∷◌, Option, Some, None, slice_get, nat_lt, if◌then◌else◌, ◌-◌, ◌==◌, ℤ, pos, not, ◌&&◌, nat_le, negsuc, ◌+ℤ◌, ◌-ℤ◌, int_lt, ◌||◌}
+use Rattle.std.specs.Prelude.{◌≡◌, ◌<◌, length, drop, ℕ, zero, suc, ◌+◌, ◌*◌, Bool, true, false, List, [], ◌∷◌, Option, Some, None, option_and_then, slice_get, nat_lt, if◌then◌else◌, ◌-◌, ◌==◌, ℤ, pos, not, ◌&&◌, nat_le, negsuc, ◌+ℤ◌, ◌-ℤ◌, int_lt, ◌||◌}
 use Rattle.lil_base.specs.{Words.{in_type, between, is_zero, word_of, Whole, Cardinal, Integer}, Sets.{has, set_word}}
 use Rattle.lil_resolved.specs.Members.{no_members}
 use Rattle.lil_base.specs.Words as type
@@ -338,17 +338,22 @@ abbrev pub count_of : Shape → ℕ
 count_of (Row n t) = n
 count_of _ = 0
 
+-- what names elsewhere need of a procedure: those around it by their numbers, the innermost first, and the shapes of its variables
+pub record Outline : Type 0 where
+  pub around : List ℕ
+  pub locals : List Shape
+
 -- What the names of statements reach: what pointers point to, by the numbers of their types, the module's variables, and the records of the
--- WITHs around, the innermost first; for each procedure of the module, from number 1, those around it by their numbers, the innermost first;
--- and the procedure at hand with those around it likewise, of which the body of the module has none.
+-- WITHs around, the innermost first; the procedures of the module, from number 1; and the procedure at hand with those around it by their
+-- numbers, the innermost first, of which the body of the module has none.
 pub record Scope : Type 0 where
   pub targets : List Shape
   pub variables : List Shape
   pub held : List Shape
-  pub procedures : List (List ℕ)
+  pub procedures : List Outline
   pub chain : List ℕ
 
-abbrev pub outermost : (targets variables : List Shape) (procedures : List (List ℕ)) (chain : List ℕ) → Scope
+abbrev pub outermost : (targets variables : List Shape) (procedures : List Outline) (chain : List ℕ) → Scope
 outermost targets variables procedures chain = record { targets = targets; variables = variables; held = []; procedures = procedures; chain = chain }
 
 -- inside of a WITH too
@@ -368,6 +373,15 @@ Declared chain (suc n) around = (n < length chain) × (around ≡ drop n chain)
 
 -- a procedure may be called by its number, where it is declared so many levels out
 pub record MayCall (ts : Scope) (p n : ℕ) : Type 0 where
-  pub around : List ℕ
-  pub known : procedure_by ts.procedures p ≡ Some around
-  pub declared : Declared ts.chain n around
+  pub its : Outline
+  pub known : procedure_by ts.procedures p ≡ Some its
+  pub declared : Declared ts.chain n its.around
+
+-- ---- variables of procedures
+abbrev pub locals_of : Option Outline → List Shape
+locals_of None = []
+locals_of (Some p) = p.locals
+
+-- the shapes of those of the procedure so many levels out of that at hand
+abbrev pub locals_at : Scope → ℕ → List Shape
+locals_at ts n = locals_of (option_and_then (procedure_by ts.procedures) (slice_get ts.chain n))

@@ -1,8 +1,8 @@
 -- Resolved modules: each name is replaced by the thing that it means, and each constant expression by its value.
-use Rattle.std.specs.Prelude.{ℕ, ℤ, Bool, true, false, List, [], ◌∷◌, Option, map}
+use Rattle.std.specs.Prelude.{ℕ, ℤ, Bool, true, false, List, [], ◌∷◌, Option, Some, None, map, slice_get}
 use Rattle.lil_base.specs.{Words.{Whole, Cardinal}, declared.operator.{OneOp.OneOp, TwoOp.{TwoOp, TheVariants.{Equal, Unequal, Less, AtMost, Greater, AtLeast, In, Plus, Minus, Or, Times, Slash, Div, Mod, And}}}}
 use Rattle.lil_base.specs.declared.request.Request as request
-use Rattle.lil_resolved.specs.Kinds.{Kind, OfWhole, OfTruth, OfCharacter, OfSet, base_of, compared_as, Scalar, Shape, Scope, outermost, part_at, shape_at, element_of}
+use Rattle.lil_resolved.specs.Kinds.{Kind, OfWhole, OfTruth, OfCharacter, OfSet, base_of, compared_as, Scalar, Shape, Outline, Scope, locals_at, outermost, part_at, shape_by, shape_at, element_of}
 pub use Rattle.lil_resolved.specs.Kinds.{procedure_by}
 
 -- standard functions of one value
@@ -14,11 +14,15 @@ pub data Function : Type 0 where
   Ord : Function
   Val : (k : Kind) → Function
 
+-- a variable, by its number among those of its owner: the module, or the procedure so many levels out, of which the one at hand is 0
+pub data Named : Type 0 where
+  OfModule : (x : ℕ) → Named
+  OfLevel : (n x : ℕ) → Named
+
 mutual
   -- what names a place
   pub data Designator : Type 0 where
-    -- a variable of the module, by its number
-    Variable : (x : ℕ) → Designator
+    Variable : (v : Named) → Designator
     -- the record of a WITH around, by how many others are between
     Held : (w : ℕ) → Designator
     -- a field of a record, by its number
@@ -88,8 +92,8 @@ mutual
     Return : Statement
     -- a call of a procedure without parameters, by its number, which is declared so many levels out; those of the module are 0 levels out
     Call : (p n : ℕ) → Statement
-    -- FOR x := a TO b BY step DO body END, with a variable of a kind
-    For : (x : ℕ) (k : Kind) (a b : Expression) (step : ℤ) (body : Statements) → Statement
+    -- FOR v := a TO b BY step DO body END, with a variable of a kind
+    For : (v : Named) (k : Kind) (a b : Expression) (step : ℤ) (body : Statements) → Statement
     -- WITH d DO body END
     Inside : (d : Designator) (body : Statements) → Statement
 
@@ -109,14 +113,15 @@ abbrev pub in_order : List Statement → Statements
 in_order [] = Empty
 in_order (s ∷ ss) = Then s (in_order ss)
 
--- a procedure: its name, the procedures around it by their numbers, the innermost first, and its statements
+-- a procedure: its name, the procedures around it by their numbers, the innermost first, the shapes of its variables, and its statements
 pub record Procedure : Type 0 where
   pub name : List ℕ
   pub around : List ℕ
+  pub locals : List Shape
   pub body : Statements
 
-abbrev pub around_of : Procedure → List ℕ
-around_of p = p.around
+abbrev pub outline_of : Procedure → Outline
+outline_of p = record { around = p.around; locals = p.locals }
 
 pub record Resolved : Type 0 where
   pub name : List ℕ
@@ -131,7 +136,7 @@ pub record Resolved : Type 0 where
 
 -- what names reach in the statements of a procedure, by it and those around it, and in the body, where there are none
 abbrev pub scope_in : Resolved → List ℕ → Scope
-scope_in m chain = outermost m.targets m.variables (map around_of m.procedures) chain
+scope_in m chain = outermost m.targets m.variables (map outline_of m.procedures) chain
 
 -- an operator that compares
 abbrev pub is_relation : TwoOp → Bool
@@ -184,9 +189,14 @@ kind_of (Apply f a) = function_kind f
 kind_of (With s k a) = OfSet
 kind_of (WithSpan s k a b) = OfSet
 
+-- the shape of a variable, if there is one
+abbrev pub variable_at : Scope → Named → Option Shape
+variable_at ts (OfModule x) = slice_get ts.variables x
+variable_at ts (OfLevel n x) = slice_get (locals_at ts n) x
+
 -- what lies at the place that a designator names
 abbrev pub shape_of : Scope → Designator → Shape
-shape_of ts (Variable x) = shape_at ts.variables x
+shape_of ts (Variable v) = shape_by (variable_at ts v)
 shape_of ts (Held w) = shape_at ts.held w
 shape_of ts (Field d i) = part_at (shape_of ts d) (i ∷ [])
 shape_of ts (Element d k e) = element_of (shape_of ts d)

@@ -1,8 +1,8 @@
 -- How much a module takes: words of the expression stack, of frames and of strings, and the bytes of its code; and modules that are small.
-use Rattle.std.specs.Prelude.{ℕ, List, [], ◌∷◌, ◌++◌, ◌+◌, max, Bool, true, false, ◌*◌, ◌≤◌, ℤ, length, if◌then◌else◌}
+use Rattle.std.specs.Prelude.{ℕ, zero, suc, List, [], ◌∷◌, ◌++◌, ◌+◌, max, Bool, true, false, ◌*◌, ◌≤◌, ℤ, length, if◌then◌else◌}
 use Rattle.std.specs.List.{flat_map}
-use Rattle.lil_resolved.specs.Resolved.{Argument, ByValue, OfArray, OfText, Statement, Assign, Copy, Text, Change, Member, New, Allocate, Request, If, Case, While, Repeat, Loop, Exit, Halt, Return, Call, For, Inside, Statements, Empty, Then, Arms, NoElse, Else, Arm, Procedure, Resolved, Designator, Variable, Held, Field, Element, Follow, Function, Odd, Expression, Constant, Taken, One, Two, Short, Apply, With, WithSpan, Abs, Cap, Chr, Ord, Val, kind_of, counted_as}
-use Rattle.lil_resolved.specs.Kinds.{Kind, OfWhole, OfCharacter, base_of, compared_as, covers, outside_turns, all_words}
+use Rattle.lil_resolved.specs.Resolved.{Named, OfModule, OfLevel, Argument, ByValue, OfArray, OfText, Statement, Assign, Copy, Text, Change, Member, New, Allocate, Request, If, Case, While, Repeat, Loop, Exit, Halt, Return, Call, For, Inside, Statements, Empty, Then, Arms, NoElse, Else, Arm, Procedure, Resolved, Designator, Variable, Held, Field, Element, Follow, Function, Odd, Expression, Constant, Taken, One, Two, Short, Apply, With, WithSpan, Abs, Cap, Chr, Ord, Val, kind_of, counted_as}
+use Rattle.lil_resolved.specs.Kinds.{Kind, OfWhole, OfCharacter, base_of, compared_as, covers, outside_turns, Shape, all_words}
 use Rattle.lil_base.specs.{declared.operator.{OneOp.OneOp, TwoOp.{TwoOp, TheVariants.{Greater, AtLeast}}}, Words.{Cardinal, Integer}}
 use Rattle.lil_base.specs.declared.operator.OneOp.TheVariants as one
 
@@ -40,7 +40,7 @@ abbrev mutual
   statement_strings Halt = []
   statement_strings Return = []
   statement_strings (Call p n) = []
-  statement_strings (For x k a b step body) = body_strings body
+  statement_strings (For v k a b step body) = body_strings body
   statement_strings (Inside d body) = body_strings body
 
   pub body_strings : Statements → List ℕ
@@ -72,7 +72,7 @@ function_depth _ = 1
 -- how many words of the expression stack a place and an expression take
 abbrev mutual
   pub place_depth : Designator → ℕ
-  place_depth (Variable x) = 1
+  place_depth (Variable v) = 1
   place_depth (Held w) = 1
   place_depth (Field d i) = place_depth d
   place_depth (Element d k e) = max (place_depth d) (2 + depth e)
@@ -108,7 +108,7 @@ abbrev mutual
   statement_words Halt = 0
   statement_words Return = 0
   statement_words (Call p n) = 0
-  statement_words (For x k a b step body) = 3 + body_words body
+  statement_words (For v k a b step body) = 3 + body_words body
   statement_words (Inside d body) = 1 + body_words body
 
   pub body_words : Statements → ℕ
@@ -120,9 +120,9 @@ abbrev mutual
   arms_words (Else body) = body_words body
   arms_words (Arm labels body rest) = body_words body + arms_words rest
 
--- the words of a body's frame: its mark, and those of its FORs and WITHs
-abbrev pub frame_words : Statements → ℕ
-frame_words body = 4 + body_words body
+-- the words of the frame of a body or a procedure: its mark, its variables, and those of its FORs and WITHs
+abbrev pub frame_words : List Shape → Statements → ℕ
+frame_words locals body = 4 + all_words locals + body_words body
 
 -- how many bytes the code of an operator takes
 abbrev pub one_size : OneOp → ℕ
@@ -153,19 +153,27 @@ function_size Odd k = 4
 function_size Ord k = test_size (OfWhole Cardinal) k
 function_size (Val j) k = test_size j k
 
--- how code has a place: at an offset in the data of the module, by its address on the expression stack, or so many words behind that
+-- how code has a place: at an offset in the data of the module or in the frame at hand, in the frame of a procedure around, by its address on
+-- the expression stack, or so many words behind that
 pub data Form : Type 0 where
   Direct : Form
+  Outward : Form
   Exact : Form
   Beyond : Form
 
 abbrev pub field_form : Form → Form
 field_form Direct = Direct
+field_form Outward = Outward
 field_form Exact = Beyond
 field_form Beyond = Beyond
 
+abbrev pub variable_form : Named → Form
+variable_form (OfModule x) = Direct
+variable_form (OfLevel zero x) = Direct
+variable_form (OfLevel (suc n) x) = Outward
+
 abbrev pub form_of : Designator → Form
-form_of (Variable x) = Direct
+form_of (Variable v) = variable_form v
 form_of (Held w) = Exact
 form_of (Field d i) = field_form (form_of d)
 form_of (Element d k e) = Exact
@@ -174,36 +182,42 @@ form_of (Follow d n) = Exact
 -- how many bytes it takes to bring its address to the expression stack, to load its word, to make it ready for a store, and to store
 abbrev pub address_size : Form → ℕ
 address_size Direct = 3
+address_size Outward = 4
 address_size Exact = 0
 address_size Beyond = 3
 
 abbrev pub load_size : Form → ℕ
 load_size Direct = 3
+load_size Outward = 4
 load_size Exact = 1
 load_size Beyond = 3
 
 abbrev pub ready_size : Form → ℕ
 ready_size Direct = 0
+ready_size Outward = 0
 ready_size Exact = 0
 ready_size Beyond = 3
 
 abbrev pub store_size : Form → ℕ
 store_size Direct = 3
+store_size Outward = 4
 store_size _ = 1
 
 -- to keep a place that is ready for a second use, and then to load its word below the topmost one
 abbrev pub again_size : Form → ℕ
 again_size Direct = 0
+again_size Outward = 0
 again_size _ = 1
 
 abbrev pub under_size : Form → ℕ
 under_size Direct = 4
+under_size Outward = 5
 under_size _ = 3
 
 -- how many bytes the code of a place and of an expression takes
 abbrev mutual
   pub place_size : Designator → ℕ
-  place_size (Variable x) = 0
+  place_size (Variable v) = 0
   place_size (Held w) = 3
   place_size (Field d i) = place_size d
   place_size (Element d k e) = place_size d + address_size (form_of d) + size e + test_size k (kind_of e) + 5
@@ -258,7 +272,7 @@ abbrev mutual
   statement_size Halt = 2
   statement_size Return = 1
   statement_size (Call p n) = 6
-  statement_size (For x k a b step body) = size a + size b + align_size k (kind_of a) step + 15 + test_size k (base_of k) + body_size body + 5
+  statement_size (For v k a b step body) = size a + size b + align_size k (kind_of a) step + 12 + test_size k (base_of k) + store_size (variable_form v) + body_size body + 5
   statement_size (Inside d body) = place_size d + address_size (form_of d) + 3 + body_size body
 
   pub body_size : Statements → ℕ

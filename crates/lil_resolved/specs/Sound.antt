@@ -7,7 +7,7 @@ use Rattle.lil_base.specs.declared.request.Request as request
 use Rattle.lil_base.specs.declared.request.Request.TheVariants as r
 pub use Rattle.lil_resolved.specs.Kinds.{is_base, is_ordinal, is_set, is_whole, is_plain, is_element, alike, takes_value, stores_value}
 use Rattle.lil_resolved.specs.Kinds.{Objects, Workspaces, Kind, OfWhole, OfTruth, OfCharacter, OfSet, OfPointer, base_of, numbers, within, is_literal, scalar_of, ordinal_of, Shape, Word, Row, Scope, with_held, MayCall, shape_at, is_there, count_of}
-use Rattle.lil_resolved.specs.Resolved.{Designator, Variable, Held, Field, Element, Follow, Function, Abs, Cap, Chr, Odd, Ord, Val, Expression, Constant, Taken, One, Two, Short, Apply, With, WithSpan, Label, Argument, ByValue, OfArray, OfText, Statement, Assign, Copy, Text, Change, Member, New, Allocate, Request, If, Case, While, Repeat, Loop, Exit, Halt, Return, Call, For, Inside, Statements, Empty, Then, Arms, NoElse, Else, Arm, Procedure, Resolved, procedure_by, scope_in, kind_of, right_kind, counted_as, shape_of}
+use Rattle.lil_resolved.specs.Resolved.{Named, variable_at, Designator, Variable, Held, Field, Element, Follow, Function, Abs, Cap, Chr, Odd, Ord, Val, Expression, Constant, Taken, One, Two, Short, Apply, With, WithSpan, Label, Argument, ByValue, OfArray, OfText, Statement, Assign, Copy, Text, Change, Member, New, Allocate, Request, If, Case, While, Repeat, Loop, Exit, Halt, Return, Call, For, Inside, Statements, Empty, Then, Arms, NoElse, Else, Arm, Procedure, Resolved, procedure_by, scope_in, kind_of, right_kind, counted_as, shape_of}
 use Rattle.lil_resolved.specs.Sizes.{place_depth, depth}
 
 -- an operator takes operands of this kind, and IN a left one
@@ -48,8 +48,8 @@ takes_function Ord k = is_ordinal k
 takes_function (Val j) k = is_ordinal k && is_ordinal (base_of j)
 
 -- a variable, by its number, has a kind whose values have numbers
-pub record IsSoundVariable (ts : Scope) (x : ℕ) (k : Kind) : Type 0 where
-  pub known : slice_get ts.variables x ≡ Some (Word k)
+pub record IsSoundVariable (ts : Scope) (v : Named) (k : Kind) : Type 0 where
+  pub known : variable_at ts v ≡ Some (Word k)
   pub base : is_ordinal (base_of k) ≡ true
 
 -- a place has a kind whose values are words
@@ -60,7 +60,7 @@ pub record IsScalar (ts : Scope) (d : Designator) (k : Kind) : Type 0 where
 -- an index chooses from all elements, operands have their operator's kind, constants fit theirs, and the record of a WITH is one around
 abbrev mutual
   pub IsSoundPlace : Scope → Designator → Type 0
-  IsSoundPlace ts (Variable x) = Unit {0}
+  IsSoundPlace ts (Variable v) = Unit {0}
   IsSoundPlace ts (Held w) = (t : Shape) × (slice_get ts.held w ≡ Some t) × (is_there t ≡ true)
   IsSoundPlace ts (Field d i) = IsSoundPlace ts d
   IsSoundPlace ts (Element d k e) = (count_of (shape_of ts d) ≡ numbers k) × (takes_value k (kind_of e) ≡ true) × IsSoundPlace ts d × IsSoundExpression ts e
@@ -213,7 +213,7 @@ abbrev mutual
   IsSoundStatement ts looping Halt = Unit {0}
   IsSoundStatement ts looping Return = Unit {0}
   IsSoundStatement ts looping (Call p n) = MayCall ts p n
-  IsSoundStatement ts looping (For x k a b step body) = IsSoundVariable ts x k × IsSoundValue ts a k × IsSoundWhole ts b (base_of k) × IsStep step × IsSoundBody ts looping body
+  IsSoundStatement ts looping (For v k a b step body) = IsSoundVariable ts v k × IsSoundValue ts a k × IsSoundWhole ts b (base_of k) × IsStep step × IsSoundBody ts looping body
   IsSoundStatement ts looping (Inside d body) = IsSoundHeld ts d × IsSoundBody (with_held ts (shape_of ts d)) looping body
 
   pub IsSoundBody : Scope → Bool → Statements → Type 0

@@ -5,9 +5,9 @@ use Rattle.lil_resolved.specs.declared.resolved.RExpr.{RExpr, TheOpen.{RExpr-F, 
 use Rattle.lil_resolved.specs.declared.resolved.RExpr.TheFolds.{map-RExpr, map-RSelector, map-RMember, fold-roll-RExpr, fold-roll-RMember, fold-roll-RSelector, fold_out-RSelector, fold_out-RMember, fold_out-ROperation, fold_out-RPlace, fold-RExpr, fold-RSelector, fold-RMember, fold-ROperation, fold-RPlace}
 use Rattle.lil_resolved.specs.declared.resolved.{RExpr.TheViews.{roll-RExpr, roll-RMember, roll-RSelector}, ROperation.{ROperation, out-ROperation}, RPlace.{RPlace, out-RPlace}, RSelector.{RSelector, out-RSelector}, RMember.{RMember, out-RMember}, Membership.Membership, Allocation.Allocation, RKind.RKind}
 use Rattle.lil_resolved.specs.{Kinds.{Kind, Objects, Workspaces, OfWhole, OfTruth, OfCharacter, OfEnumeration, OfSet, OfPointer, OfRange, compared_as, scalar_of, SetOf, Shape, Absent, Word, Row, all_words, offsets_from, shape_at, fields_of, words}, declared.resolved.RStmt.{RStmt, TheOpen.{RStmt-F, RArm-F, RGuard-F}}}
-use Rattle.lil_resolved.specs.declared.resolved.{RStmt.{TheFolds.{map-RStmt, fold-roll-RStmt, fold-roll-RArm, fold-roll-RGuard, fold-RStmt, fold-RArm, fold-RGuard}, TheViews.roll-RStmt}, RGuard.RGuard, RArm.RArm, RBase.RBase, RVariable.RVariable, RFunction.RFunction, Direction.Direction, RArgument.RArgument}
-use Rattle.lil_resolved.specs.Resolved.{Designator, Field, Element, Follow, Expression, Constant, Taken, Apply, With, WithSpan, Assign, Copy, Text, Change, Member, New, Allocate, Request, If, Case, While, Repeat, Loop, Exit, Halt, Return, Call, For, Inside, Statements, Empty, Then, Arms, Arm, kind_of, Variable, Held, Function, Abs, Cap, Chr, Odd, Ord, Val, One, Two, Short, Argument, ByValue, OfArray, OfText, Label, NoElse, Else, Procedure, Resolved}
-use Rattle.lil_resolved.specs.{Members.no_members, declared.{resolved.{RRange.RRange, RRoot.RRoot, RDeclared.RDeclared, RLabel.RLabel, RProcedure.RProcedure, RModule.RModule}, shapes.{RField.RField, RShape.RShape}}}
+use Rattle.lil_resolved.specs.declared.resolved.{RStmt.{TheFolds.{map-RStmt, fold-roll-RStmt, fold-roll-RArm, fold-roll-RGuard, fold-RStmt, fold-RArm, fold-RGuard}, TheViews.roll-RStmt}, RGuard.RGuard, RArm.RArm, RBase.RBase, RVariable.RVariable, RNamed.RNamed, RFunction.RFunction, Direction.Direction, RArgument.RArgument}
+use Rattle.lil_resolved.specs.Resolved.{Named, OfModule, OfLevel, Designator, Field, Element, Follow, Expression, Constant, Taken, Apply, With, WithSpan, Assign, Copy, Text, Change, Member, New, Allocate, Request, If, Case, While, Repeat, Loop, Exit, Halt, Return, Call, For, Inside, Statements, Empty, Then, Arms, Arm, kind_of, Variable, Held, Function, Abs, Cap, Chr, Odd, Ord, Val, One, Two, Short, Argument, ByValue, OfArray, OfText, Label, NoElse, Else, Procedure, Resolved}
+use Rattle.lil_resolved.specs.{Members.no_members, declared.{resolved.{RRange.RRange, RRoot.RRoot, RDeclared.RDeclared, RLabel.RLabel, RHeading.RHeading, RProcedure.RProcedure, RModule.RModule}, shapes.{RField.RField, RShape.RShape}}}
 use Rattle.lil_resolved.specs.declared.resolved.RExpr.TheVariants as e
 use Rattle.lil_resolved.specs.declared.resolved.RExpr.TheOpen as x
 use Rattle.lil_resolved.specs.declared.resolved.RSelector.TheVariants as l
@@ -15,13 +15,14 @@ use Rattle.lil_resolved.specs.declared.resolved.RMember.TheVariants as c
 use Rattle.lil_resolved.specs.declared.resolved.RStmt.TheVariants as s
 use Rattle.lil_resolved.specs.declared.resolved.RStmt.TheOpen as o
 use Rattle.lil_base.specs.declared.request.Request as request
-use Rattle.std.specs.Prelude.{◌+◌, ◌<◌, ◌≤◌, Bool, [], ◌∷◌, ◌++◌, length, true, false}
+use Rattle.std.specs.{Prelude.{◌+◌, ◌<◌, ◌≤◌, min, Bool, [], ◌∷◌, ◌++◌, length, true, false}, List.All}
 use Rattle.lil_resolved.specs.declared.resolved.RBase.TheVariants as b
 use Rattle.lil_resolved.specs.declared.resolved.RFunction.TheVariants as f
 use Rattle.lil_resolved.specs.declared.resolved.Direction.TheVariants as d
 use Rattle.lil_resolved.specs.declared.resolved.Membership.TheVariants as j
 use Rattle.lil_resolved.specs.declared.resolved.Allocation.TheVariants as w
 use Rattle.lil_resolved.specs.declared.resolved.RRoot.TheVariants as t
+use Rattle.lil_resolved.specs.declared.resolved.RNamed.TheVariants as n
 use Rattle.lil_resolved.specs.declared.resolved.RArgument.TheVariants as g
 use Rattle.lil_resolved.specs.declared.shapes.RShape.TheVariants as r
 
@@ -42,6 +43,10 @@ ranged_view k (Some r) = OfRange k r.low r.high
 
 abbrev pub kind_view : RKind → Kind
 kind_view k = ranged_view (base_view k.base) k.range
+
+abbrev pub named_view : RNamed → Named
+named_view (n.Module x) = OfModule x
+named_view (n.Level l x) = OfLevel l x
 
 abbrev pub variable_kind : RVariable → Kind
 variable_kind v = kind_view v.kind
@@ -128,7 +133,7 @@ member_layer (x.Single a) k s = With s k a
 member_layer (x.Span a b) k s = WithSpan s k a b
 
 abbrev pub root_view : RRoot → Designator
-root_view (t.Variable x) = Variable x
+root_view (t.Variable v) = Variable (named_view v)
 root_view (t.Held w) = Held w
 
 abbrev pub operation_layer : ROperation-F Expression (Kind → Expression → Expression) (Designator → Designator) (Expression → Expression) Designator → Expression → Expression
@@ -203,7 +208,7 @@ statement_layer o.Exit = Then Exit Empty
 statement_layer o.Halt = Then Halt Empty
 statement_layer o.Return = Then Return Empty
 statement_layer (o.Call p n) = Then (Call p n) Empty
-statement_layer (o.For v a b step ss) = Then (For v.number (variable_kind v) (expression_of a) (expression_of b) step (all_of ss)) Empty
+statement_layer (o.For v a b step ss) = Then (For (named_view v.named) (variable_kind v) (expression_of a) (expression_of b) step (all_of ss)) Empty
 statement_layer (o.With p ss) = Then (Inside (place_of p) (all_of ss)) Empty
 
 abbrev pub arm_layer : RArm-F Statements (Arms → Arms) (Statements → Statements) → Arms → Arms
@@ -281,17 +286,29 @@ offset_of v = v.offset
 abbrev pub shape_declared : List RShape → RDeclared → Shape
 shape_declared ts v = shape_at (shapes_of ts) v.shape
 
-abbrev pub procedure_of : RProcedure → Procedure
-procedure_of p = record { name = p.name; around = p.around; body = statements_of p.body }
+abbrev pub locals_of : List RShape → RHeading → List Shape
+locals_of ts h = map (shape_declared ts) h.locals
+
+abbrev pub procedure_of : List RShape → RProcedure → Procedure
+procedure_of ts p = record { name = p.heading.name; around = p.heading.around; locals = locals_of ts p.heading; body = statements_of p.body }
+
+abbrev pub heading_of : RProcedure → RHeading
+heading_of p = p.heading
 
 abbrev pub module_of : RModule → Resolved
-module_of m = record { name = m.name; targets = map (shape_at (shapes_of m.shapes)) m.targets; names = map name_of m.variables; variables = map (shape_declared m.shapes) m.variables; procedures = map procedure_of m.procedures; body = statements_of m.body }
+module_of m = record { name = m.name; targets = map (shape_at (shapes_of m.shapes)) m.targets; names = map name_of m.variables; variables = map (shape_declared m.shapes) m.variables; procedures = map (procedure_of m.shapes) m.procedures; body = statements_of m.body }
+
+-- the words of the variables of a procedure, from the fifth of its frame on, up to 65,535
+pub record IsMeasuredHeading (ts : List RShape) (h : RHeading) : Type 0 where
+  pub offsets : map offset_of h.locals ≡ map (min 65535) (offsets_from 4 (locals_of ts h))
+  pub words : h.words ≡ min 65535 (all_words (locals_of ts h))
 
 -- the words of a module's shapes and variables are counted
 pub record IsMeasured (m : RModule) : Type 0 where
   pub shapes : AreMeasured [] m.shapes
   pub offsets : map offset_of m.variables ≡ offsets_from 0 (module_of m).variables
   pub words : m.words ≡ all_words (module_of m).variables
+  pub procedures : All (IsMeasuredHeading m.shapes) (map heading_of m.procedures)
 
 -- ---- what each form of expression, an operation, a place, each form of selector and of statement, a guard and an arm are
 
@@ -412,7 +429,7 @@ pub call_is : (p n : ℕ) → statement_of (s.Call p n) ≡ Then (Call p n) Empt
 call_is p n = ap statement_of (sym (s.rolls-Call p n)) ∙ rolled (o.Call p n)
 
 pub for_is : (v : RVariable) (a b : RExpr) (step : ℤ) (ss : List RStmt)
-    → statement_of (s.For v a b step ss) ≡ Then (For v.number (variable_kind v) (expression_of a) (expression_of b) step (statements_of ss)) Empty
+    → statement_of (s.For v a b step ss) ≡ Then (For (named_view v.named) (variable_kind v) (expression_of a) (expression_of b) step (statements_of ss)) Empty
 for_is v a b step ss = ap statement_of (sym (s.rolls-For v a b step ss)) ∙ rolled (o.For v a b step ss)
 
 pub inside_is : (p : RPlace) (ss : List RStmt) → statement_of (s.With p ss) ≡ Then (Inside (place_of p) (statements_of ss)) Empty

@@ -33,10 +33,18 @@ pub struct RKind {
     pub range: Option<RRange>,
 }
 
-/// A variable of the module: its number, and its kind.
+/// A variable, by its number among those of its owner: the module, or the procedure so many levels out, of which the one
+/// at hand is 0.
+#[derive(Clone, Copy)]
+pub enum RNamed {
+    Module(usize),
+    Level(u8, usize),
+}
+
+/// A variable, and its kind.
 #[derive(Clone, Copy)]
 pub struct RVariable {
-    pub number: usize,
+    pub named: RNamed,
     pub kind: RKind,
 }
 
@@ -95,11 +103,10 @@ pub struct ROperation {
     pub operand: RExpr,
 }
 
-/// With what a place begins: a variable of the module by its number, or the record of a WITH around, of which the
-/// innermost is 0.
+/// With what a place begins: a variable, or the record of a WITH around, of which the innermost is 0.
 #[derive(Clone, Copy)]
 pub enum RRoot {
-    Variable(usize),
+    Variable(RNamed),
     Held(usize),
 }
 
@@ -191,7 +198,7 @@ pub struct RLabel {
     pub high: i32,
 }
 
-/// A variable of a module: its name, the words of the module's data before it, and the number of its shape.
+/// A variable: its name, the words before it in the module's data or its procedure's frame, and the number of its shape.
 #[derive(Drop)]
 pub struct RDeclared {
     pub name: Name,
@@ -199,11 +206,20 @@ pub struct RDeclared {
     pub shape: usize,
 }
 
-/// A procedure of a module: its name, the numbers of the procedures around it, the innermost first, and its statements.
+/// What names elsewhere need of a procedure: its name, the numbers of the procedures around it, the innermost first, its
+/// variables, and how many words they take.
 #[derive(Drop)]
-pub struct RProcedure {
+pub struct RHeading {
     pub name: Name,
     pub around: Items<u8>,
+    pub locals: Items<RDeclared>,
+    pub words: u16,
+}
+
+/// A procedure of a module: its heading, and its statements.
+#[derive(Drop)]
+pub struct RProcedure {
+    pub heading: RHeading,
     pub body: Items<RStmt>,
 }
 

@@ -9,7 +9,7 @@ use Rattle.lil_types.specs.{Types.{Table, integer, cardinal, char, address}, dec
 use Rattle.lil_declared.specs.declared.{declared.RVar.RVar, standard.Resident.Resident}
 use Rattle.lil_declared.specs.declared.standard.Resident.TheVariants as resident
 use Rattle.lil_resolved.specs.{Kinds.{Scope, MayCall, is_ordinal}, Sound.{Single, request_parameters, parameter_of, AreSoundArguments}, Views.{argument_of, base_view, allocate_is, request_is, call_is}}
-use Rattle.lil_resolved.specs.declared.resolved.{Allocation.{Allocation, TheVariants.{Takes, GivesBack}}, RArgument.RArgument, RBase.RBase, RStmt.RStmt}
+use Rattle.lil_resolved.specs.declared.resolved.{Allocation.{Allocation, TheVariants.{Takes, GivesBack}}, RArgument.RArgument, RBase.RBase, RNamed.RNamed, RStmt.RStmt}
 use Rattle.lil_resolved.specs.declared.resolved.RArgument.TheVariants as given
 use Rattle.lil_resolved.specs.declared.resolved.RBase.TheVariants as b
 use Rattle.lil_resolved.specs.declared.resolved.RStmt.TheVariants as statement
@@ -25,7 +25,7 @@ use Rattle.lil_call.specs.declared.call.Callee.TheVariants as callee
 use Rattle.lil_right_type.specs.{Found.{IsFound, value, place, signature}, Parts.routine_is, Right.{Right, IsThere, IsAny, is_so, after_right}, Typed.kept_if, Types.IsTold}
 use Rattle.lil_right_call.specs.{Functions.function_right, Given.{IsTaken, string_there, value_there, address_there}, Procedures.procedure_right, Told.{ArgumentTold, CalleeTold, Calls}}
 
-module _ {t : Table} {vs : List RVar} {around : List ℕ} (P : Property t vs around) (told : IsTold t) where
+module _ {t : Table} {vs : RNamed → Option RVar} {around : List ℕ} (P : Property t vs around) (told : IsTold t) where
   -- ---- the arguments of resident procedures
   -- arguments that are handed over to parameters, one after another
   abbrev Hands : List Parameter → Handed → Handed → Type 0
@@ -131,7 +131,7 @@ module _ {t : Table} {vs : List RVar} {around : List ℕ} (P : Property t vs aro
   call_node_right R p (Some c) xs h all = subst (λ b. Right (IsThere (IsFound P)) (if b then value_of t p c xs else (None, []))) (sym (have_values xs all)) (value_right p R c xs h all)
 
 -- ---- calls that are statements
-module _ {t : Table} {vs : List RVar} {around : List ℕ} {ts : Scope} (fits : Fits t vs around ts) (told : IsTold t) (looping : Bool) where
+module _ {t : Table} {vs : RNamed → Option RVar} {around : List ℕ} {ts : Scope} (fits : Fits t vs around ts) (told : IsTold t) (looping : Bool) where
   abbrev P : Property t vs around
   P = soundness fits
 

@@ -7,7 +7,7 @@ use Rattle.lil_base.specs.{Laws.{bounds, in_range}, Words.{Integer, between, num
 use Rattle.lil_types.specs.{Types.{Table, entry, integer, cardinal, boolean, char, base, is_whole}, declared.table.{Span.Span, TypeEntry.TypeEntry, TypeForm.{TypeForm, TheVariants.Enumeration}}}
 use Rattle.lil_declared.specs.declared.{declared.RVar.RVar, standard.Standard.Standard}
 use Rattle.lil_declared.specs.declared.standard.Standard.TheVariants as standard
-use Rattle.lil_resolved.specs.{Bases.own_base, Kinds.{least, greatest}, Resolved.{Function, Odd, kind_of, function_kind}, Sizes.depth, Sound.takes_function, Views.{base_view, function_of, expression_of, apply_is}, declared.resolved.{RBase.RBase, RExpr.RExpr, RFunction.RFunction, RKind.RKind}}
+use Rattle.lil_resolved.specs.{Bases.own_base, Kinds.{least, greatest}, Resolved.{Function, Odd, kind_of, function_kind}, Sizes.depth, Sound.takes_function, Views.{base_view, function_of, expression_of, apply_is}, declared.resolved.{RBase.RBase, RExpr.RExpr, RFunction.RFunction, RKind.RKind, RNamed.RNamed}}
 use Rattle.lil_resolved.specs.Kinds as kinds
 use Rattle.lil_resolved.specs.Sizes as sizes
 use Rattle.lil_resolved.specs.declared.resolved.RBase.TheVariants as b
@@ -145,7 +145,7 @@ module _ (t : Table) (told : IsTold t) where
   character_number (k.Chars c) z fine h is = subst (λ z. has_number b.Character z ≡ true) (same_Some (pos c.first) z (if_some (c.length == 1) _ z is).1) (is_character_number c.first fine)
   character_number _ z fine h is = absurd (none-some z is)
 
-module _ {t : Table} {vs : List RVar} {around : List ℕ} (P : Property t vs around) (told : IsTold t) where
+module _ {t : Table} {vs : RNamed → Option RVar} {around : List ℕ} (P : Property t vs around) (told : IsTold t) where
   -- what a function of an operand of a depth gives, and its form
   abbrev IsGiven : ℕ → Form → Applied → Type 0
   IsGiven d x (Gives a) = KindTold t a × GoesWith P (function_depth a d) a (kept_form x a)

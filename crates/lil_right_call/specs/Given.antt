@@ -6,7 +6,7 @@ use Rattle.std.proofs.lemmas.{Int.ints, Option.none-some, Bool.Decides.nat_tests
 use Rattle.lil_types.specs.{Types.{Table, char, address, meant, same}, declared.table.Parameter.Parameter}
 use Rattle.lil_declared.specs.declared.declared.RVar.{RVar}
 use Rattle.lil_resolved.specs.Kinds as kinds
-use Rattle.lil_resolved.specs.{Kinds.{Scope, OfPointer, Workspaces, nat_of}, Sizes.{place_depth, depth}, Sound.{Characters, parameter_of, IsSoundArgument, IsSoundTarget, IsSoundValue, IsSoundWhole}, Views.{argument_of, base_view, kind_view, expression_of, place_of}, declared.resolved.{RArgument.RArgument, RBase.RBase, RExpr.RExpr, RKind.RKind}}
+use Rattle.lil_resolved.specs.{Kinds.{Scope, OfPointer, Workspaces, nat_of}, Sizes.{place_depth, depth}, Sound.{Characters, parameter_of, IsSoundArgument, IsSoundTarget, IsSoundValue, IsSoundWhole}, Views.{argument_of, base_view, kind_view, expression_of, place_of}, declared.resolved.{RArgument.RArgument, RBase.RBase, RExpr.RExpr, RKind.RKind, RNamed.RNamed}}
 use Rattle.lil_resolved.specs.declared.resolved.RArgument.TheVariants as given
 use Rattle.lil_resolved.specs.declared.resolved.RBase.TheVariants as b
 use Rattle.lil_shapes.specs.{BaseLaws.{same_sort, kind_base}, Bases.{plain, base_at, kind_at, numbers_of, characters_in, characters_at}}
@@ -32,7 +32,7 @@ pub there_is : {A : Type 0} (P : A → Type 0) (o : Option A) → IsThere P o �
 there_is P None h = absurd h
 there_is P (Some a) h = (a, refl, h)
 
-module _ {t : Table} {vs : List RVar} {around : List ℕ} {ts : Scope} (fits : Fits t vs around ts) where
+module _ {t : Table} {vs : RNamed → Option RVar} {around : List ℕ} {ts : Scope} (fits : Fits t vs around ts) where
   abbrev P : Property t vs around
   P = soundness fits
 

@@ -9,7 +9,7 @@ use Rattle.lil_declared.specs.declared.standard.Standard.TheVariants as standard
 use Rattle.lil_report.specs.Told.{Row}
 use Rattle.lil_resolved.specs.Kinds as kinds
 use Rattle.lil_resolved.specs.{Bases.own_base, Kinds.{OfWhole, Scope, compared_as, is_pointer, is_there, shape_at, stores_value}, Resolved.shape_of, Views.{base_view, place_of, assign_is, change_is, member_changed_is, new_is, halt_is}}
-use Rattle.lil_resolved.specs.declared.resolved.{Direction.{Direction, TheVariants.{Up, Down}}, Membership.{Membership, TheVariants.{Joins, Leaves}}, RBase.RBase, RExpr.RExpr, RStmt.RStmt}
+use Rattle.lil_resolved.specs.declared.resolved.{Direction.{Direction, TheVariants.{Up, Down}}, Membership.{Membership, TheVariants.{Joins, Leaves}}, RBase.RBase, RExpr.RExpr, RNamed.RNamed, RStmt.RStmt}
 use Rattle.lil_resolved.specs.declared.resolved.RBase.TheVariants as b
 use Rattle.lil_resolved.specs.declared.resolved.RStmt.TheVariants as s
 use Rattle.lil_shapes.specs.{BaseLaws.same_sort, Bases.{plain, base_at}, ListLaws.AllFine, Operators.{counted, counted_base, has_number}, Pointers.{target_of, target_with}, TargetSound.{PointsTo, all_known, target_known}, declared.{members.Members.Members, pointers.Target.Target}}
@@ -68,7 +68,7 @@ record Changes (t : Table) (of : Standard) (x : Found) (c : Bool) : Type 0 where
 abbrev Takes : Table → Standard → Kind → Found → Bool → Type 0
 Takes t of v y c = (c ≡ true) × (is_wrong_operand t of v y.kind ≡ false)
 
-module _ {t : Table} {vs : List RVar} {around : List ℕ} {ts : Scope} (fits : Fits t vs around ts) (told : IsTold t) (looping : Bool) where
+module _ {t : Table} {vs : RNamed → Option RVar} {around : List ℕ} {ts : Scope} (fits : Fits t vs around ts) (told : IsTold t) (looping : Bool) where
   abbrev P : Property t vs around
   P = soundness fits
 

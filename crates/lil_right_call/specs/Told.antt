@@ -1,10 +1,10 @@
 -- What is told of arguments and of what is called.
-use Rattle.std.proofs.Common.{◌≡◌, ◌⊎◌, inl, inr, ℕ, ◌+◌, ◌<◌, true, false, List, [], ◌∷◌, Some, None, refl}
+use Rattle.std.proofs.Common.{◌≡◌, ◌⊎◌, inl, inr, ℕ, ◌+◌, ◌<◌, true, false, List, [], ◌∷◌, Option, Some, None, refl}
 use Rattle.lil_types.specs.Types.{Table}
 use Rattle.lil_declared.specs.declared.declared.RVar.{RVar}
 use Rattle.lil_scope.specs.Built.{standard_built, resident_built}
 use Rattle.lil_kinds.specs.Forms.{parameters, result}
-use Rattle.lil_resolved.specs.Kinds.{Scope, MayCall}
+use Rattle.lil_resolved.specs.{Kinds.{Scope, MayCall}, declared.resolved.RNamed.RNamed}
 use Rattle.lil_shapes.specs.{ListLaws.AllFine, Pointers.lies_at}
 use Rattle.lil_forms.specs.Properties.{Property}
 use Rattle.lil_call.specs.{Passing.all_have_values, declared.call.{Argument.Argument, Callee.Callee}}
@@ -12,7 +12,7 @@ use Rattle.lil_call.specs.declared.call.Argument.TheVariants as argument
 use Rattle.lil_call.specs.declared.call.Callee.TheVariants as callee
 use Rattle.lil_right_type.specs.Found.{IsFound, signature}
 
-module _ {t : Table} {vs : List RVar} {around : List ℕ} (P : Property t vs around) where
+module _ {t : Table} {vs : RNamed → Option RVar} {around : List ℕ} (P : Property t vs around) where
   -- an argument is a value that is told, or a type in whose variables something lies; or it is missing, and then W is so
   abbrev pub ArgumentOr : Type 0 → Argument → Type 0
   ArgumentOr W (argument.Value None) = W

@@ -70,25 +70,27 @@ types_entered m s t (e ∷ es) all room =
         subst (λ n. At (with_types m s u es) n x) same (rest.at i x is)
 
 -- ---- names
--- what is no procedure of a text, and no module
+-- what is no procedure and no variable of a text, and no module
 abbrev IsPlain : Thing → Type 0
 IsPlain (thing.Procedure r) = ⊥
+IsPlain (thing.Variable v) = ⊥
 IsPlain (thing.Module b) = ⊥
 IsPlain _ = Unit {0}
 
-plain_allowed : (count : ℕ) (ps : List RProc) (x : Thing) → IsPlain x → Allowed count ps x
-plain_allowed count ps (thing.Procedure r) h = h
-plain_allowed count ps (thing.Module b) h = absurd h
-plain_allowed count ps _ h = tt
+plain_allowed : (count : ℕ) (ps : List RProc) (vs : List RVar) (ls : List (List RVar)) (k : ℕ) (x : Thing) → IsPlain x → Allowed count ps vs ls k x
+plain_allowed count ps vs ls k (thing.Procedure r) h = h
+plain_allowed count ps vs ls k (thing.Variable v) h = absurd h
+plain_allowed count ps vs ls k (thing.Module b) h = absurd h
+plain_allowed count ps vs ls k _ h = tt
 
 standard_signature : (s : ℕ) (r : Resident) → map (moved_parameter s) (signature r) ≡ signature r
 standard_signature s resident.Read = refl
 standard_signature s _ = refl
 
-module _ (s : ℕ) (types u : Table) (vs : List RVar) (texts : List (List ℕ)) (told : IsTold u)
+module _ (s : ℕ) (types u : Table) (texts : List (List ℕ)) (told : IsTold u)
     (at : (i : ℕ) (e : TypeEntry) → slice_get types i ≡ Some e → (x : TypeEntry) × (entry u (moved s (i + 16)) ≡ Some x) × (x.form ≡ moved_form s e.form)) where
   abbrev IsSo : Thing → Type 0
-  IsSo x = ThingTold u vs texts x × (IsIn u x × IsPlain x)
+  IsSo x = ThingTold u texts x × (IsIn u x × IsPlain x)
 
   thing_told : (x : Thing) → IsResident types x → IsSo (seen_by s true x)
   thing_told (thing.Constant kind) h = subst (λ kind. IsSo (thing.Constant (moved_kind s kind))) (sym h) (((b.Character, refl, refl, refl), tt), (tt, tt))
@@ -105,13 +107,13 @@ moved_there : (s i : ℕ) → s + (i + 16) < 4294967295 → moved s (i + 16) ≡
 moved_there s i h = grind (arith, nat_tests)
 
 abbrev IsShown : Env → Thing → Type 0
-IsShown e x = ThingTold e.types e.variables e.texts x × (IsIn e.types x × IsPlain x)
+IsShown e x = ThingTold e.types e.texts x × (IsIn e.types x × IsPlain x)
 
 module _ (s b : ℕ) where
   names_told : (e : Env) (xs : List Exported) → AllFine (λ (x : Exported). IsShown e (seen_by s x.shown x.what)) xs → Declared e → Declared (with_blocks e (with_names s b e.scopes.blocks xs))
   unfolding with_name
   names_told e [] all h = h
-  names_told e (x ∷ xs) all h = names_told (with_blocks e (with_name s b e.scopes.blocks x)) xs all.1 (bound_declared e h b x.name (known (seen_by s x.shown x.what)) (all.0.0, (all.0.1.0, plain_allowed (length e.scopes.blocks) e.procedures (seen_by s x.shown x.what) all.0.1.1)))
+  names_told e (x ∷ xs) all h = names_told (with_blocks e (with_name s b e.scopes.blocks x)) xs all.1 (bound_declared e h b x.name (known (seen_by s x.shown x.what)) (all.0.0, (all.0.1.0, plain_allowed (length e.scopes.blocks) e.procedures e.variables e.locals b (seen_by s x.shown x.what) all.0.1.1)))
 
 -- there are as many blocks
 pub names_many : (s b : ℕ) (bs : List Names) (xs : List Exported) → length (with_names s b bs xs) ≡ length bs
@@ -142,5 +144,5 @@ module _ (m b : ℕ) (e : Env) (i : Interface) (shown : Shown i) (room : length 
           let before : Declared e = h (few_before e.types u into.grown few) in
           let told : AreTold u = into.told few (before.told.types, before.told.words) in
           names_told (length e.types) b (record e { types = u }) i.names
-          (all_then _ _ (λ (x : Exported) is. subst (λ c. IsShown (record e { types = u }) (seen_by (length e.types) c x.what)) (sym is.0) (thing_told (length e.types) i.types u e.variables e.texts told.0 at x.what is.1)) i.names shown.names)
+          (all_then _ _ (λ (x : Exported) is. subst (λ c. IsShown (record e { types = u }) (seen_by (length e.types) c x.what)) (sym is.0) (thing_told (length e.types) i.types u e.texts told.0 at x.what is.1)) i.names shown.names)
           (declared_kept e before u (grown_kept e.types u into.grown) told.0 told.1)

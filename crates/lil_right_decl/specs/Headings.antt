@@ -1,8 +1,8 @@
 -- Headings in which no test finds a fault: a procedure without parameters, and what is declared inside of it.
-use Rattle.std.proofs.Common.{◌≡◌, ℕ, suc, ◌+◌, ◌<◌, ◌≤◌, Bool, true, false, not, ◌||◌, List, [], ◌∷◌, ◌++◌, length, slice_get, Option, Some, None, refl, sym, ap, subst, ◌∙◌, arith, true≢false, length-append}
-use Rattle.std.specs.Prelude.{is_some, is_none, nat_le}
+use Rattle.std.proofs.Common.{◌≡◌, ℕ, ◌+◌, ◌<◌, false, not, ◌||◌, List, [], ◌∷◌, ◌++◌, length, slice_get, Option, Some, None, refl, sym, ap, subst, ◌∙◌, arith, true≢false, length-append}
+use Rattle.std.specs.Prelude.{is_some, is_none}
 use Rattle.std.proofs.lemmas.{Bool.Decides.nat_tests, List.length_push}
-use Rattle.lil_text.specs.declared.tree.{Ident.Ident, Qualident.Qualident}
+use Rattle.lil_text.specs.declared.tree.{Qualident.Qualident}
 use Rattle.lil_language.specs.declared.{tree.Stmt.Stmt, unit.{Heading.Heading, Section.Section}}
 use Rattle.lil_types.specs.{Types.{Table, entry}, Adding.{next, own, added, added_number}, declared.table.{Facts.Facts, TypeForm.TypeForm}}
 use Rattle.lil_types.specs.declared.table.TypeForm.TheVariants as form
@@ -11,16 +11,16 @@ use Rattle.lil_report.specs.Told.{Row, after, walk}
 use Rattle.lil_kinds.specs.Forms.{parameters, result}
 use Rattle.lil_shapes.specs.{ListLaws.AllFine, ShapeSound.earlier}
 use Rattle.lil_forms.specs.Scopes.{fine_more}
-use Rattle.lil_scope.specs.{Names.{bind, bind_at, bound_at, with_block, inside, entered, outside, level}, declared.{env.Env.Env, thing.{Entry.Entry, Thing.Thing}}}
+use Rattle.lil_scope.specs.{Names.{bind, bind_at, bound_at, inside, entered, outside, level}, declared.{env.Env.Env, thing.{Entry.Entry}}}
 use Rattle.lil_scope.specs.Names as names
 use Rattle.lil_check_value.specs.Looks.{not_built}
 use Rattle.lil_check_type.specs.{declared.named.NamedType.{NamedType, TheVariants.Absent}, Made.{Made, type_node, form_node}, Records.{no_parameters, result_means, procedure_form}}
-use Rattle.lil_check_decl.specs.{Decls.{Means, procedure_means}, Headings.{Headed, section_step, home_at, procedure_thing, with_procedure, numbered_node, named_means, is_empty, has_more, heading_means}}
+use Rattle.lil_check_decl.specs.{Decls.{Means, procedure_means}, Headings.{Headed, section_step, home_at, procedure_thing, with_procedure, numbered_node, named_means, is_empty, heading_means}}
 use Rattle.lil_check_stmt.specs.Texts.{Texts}
 use Rattle.lil_right_type.specs.{Right.{Right, after_right}, Homes.{Longer, homed_procedure, stands_stays, stands_inside}}
 use Rattle.lil_right_type.specs.Homes as homes
 use Rattle.lil_right_value.specs.Names.{Told, bound_at_is}
-use Rattle.lil_right_sort.specs.{Growth.{Few, few_before, added_grown, added_entry, entry_below, entry_shape, shape_parameters, last_there, IsIn, IsProper, Declared, declared_added}, Simple.Begun}
+use Rattle.lil_right_sort.specs.{Growth.{Few, few_before, added_grown, added_entry, entry_below, entry_shape, shape_parameters, last_there, IsIn, AllLie, IsProper, Declared, declared_added}, Simple.Begun}
 use Rattle.lil_right_decl.specs.Constants.{Behind}
 
 -- ---- what is declared behind something, with the procedures of these texts, each of which has a block
@@ -88,7 +88,7 @@ module _ (e : Env) (begun : Begun e) (h : Heading) where
 
   -- the procedure's type is there
   abbrev typed : Env
-  typed = record (with_block e) { types = u }
+  typed = record (names.begun e) { types = u }
 
   record IsTyped (m : Made) : Type 0 where
     env : m.0 ≡ typed
@@ -106,11 +106,11 @@ module _ (e : Env) (begun : Begun e) (h : Heading) where
       types = d.told.types;
       words = d.told.words;
       names = bound_at_is (Told base) (e.scopes.blocks ++ [] ∷ []) e.scopes.inner h.name.name new (fine_more _ e.scopes.blocks [] d.told.names tt) heading;
-      homed = homed_procedure e.scopes.blocks e.procedures e.scopes.outer e.scopes.inner e.procedure d.told.homed d.told.stands room h.name.name n h.name.name new refl;
+      homed = homed_procedure e.scopes.blocks e.procedures e.variables e.locals e.scopes.outer e.scopes.inner e.procedure d.told.homed d.told.stands room h.name.name n h.name.name new refl;
       stands = stands_stays e.procedures (headed n).procedures (λ i q is. earlier e.procedures (its ∷ []) i q is) e.scopes.outer e.scopes.inner e.procedure (omega (arith, length_push e.procedures its)) d.told.stands;
     };
     residents = bound_at_is (IsIn u) (e.scopes.blocks ++ [] ∷ []) e.scopes.inner h.name.name new (fine_more _ e.scopes.blocks [] d.residents tt) below;
-    variables = d.variables;
+    variables = (d.variables.0, fine_more (AllLie u) e.locals [] d.variables.1 tt);
     proper = fine_more (IsProper u) e.procedures its d.proper (below, heading);
   }
     where
@@ -121,7 +121,7 @@ module _ (e : Env) (begun : Begun e) (h : Heading) where
       d = declared_added e (begun (few_before e.types u (added_grown e.types (own e.types) proper) few)) (own e.types) proper tt few
 
       its : RProc
-      its = homes.own e.scopes.blocks e.procedures e.scopes.outer e.scopes.inner e.procedure d.told.homed d.told.stands room h.name.name n
+      its = homes.own e.scopes.blocks e.procedures e.variables e.locals e.scopes.outer e.scopes.inner e.procedure d.told.homed d.told.stands room h.name.name n
 
       new : Entry
       new = names.entry (procedure_thing k (Some n) typed) h.name.place
@@ -153,18 +153,18 @@ module _ (e : Env) (begun : Begun e) (h : Heading) where
   abbrev rest : Headed → (Option Qualident) → Env × List Row
   rest q r = after (after (result_means q.0 r) (λ n. form_node q.0 h.place (procedure_form q.1 n))) (named_means k h.name)
 
-  typed_right : Right IsTyped (type_node (with_block e) h.place proper)
+  typed_right : Right IsTyped (type_node (names.begun e) h.place proper)
   unfolding type_node
   typed_right clear = let n = is_there (added_number e.types proper) clear.0 in record { env = refl; number = n.0; some = n.1; given = n.1 }
 
-  bare_right : Right (IsHeaded e) (rest (with_block e, no_parameters) None)
+  bare_right : Right (IsHeaded e) (rest (names.begun e, no_parameters) None)
   bare_right = after_right IsTyped (IsHeaded e) _ (named_means k h.name)
-      (after_right (λ (n : NamedType). n ≡ Absent) IsTyped (result_means (with_block e) None) _ (λ clear. refl)
-      (λ n same. subst (λ (n : NamedType). Right IsTyped (form_node (with_block e) h.place (procedure_form no_parameters n))) (sym same) typed_right))
+      (after_right (λ (n : NamedType). n ≡ Absent) IsTyped (result_means (names.begun e) None) _ (λ clear. refl)
+      (λ n same. subst (λ (n : NamedType). Right IsTyped (form_node (names.begun e) h.place (procedure_form no_parameters n))) (sym same) typed_right))
       named_right
 
-  parts_right : (ss : List Section) (r : Option Qualident) → (not (is_empty ss) || is_some r) ≡ false → Right (IsHeaded e) (after (walk (section_step (home_at e k)) (with_block e, no_parameters) ss) (λ q. rest q r))
-  parts_right [] None none = after_right (λ (q : Headed). q ≡ (with_block e, no_parameters)) (IsHeaded e) (walk (section_step (home_at e k)) (with_block e, no_parameters) []) _ (λ clear. refl) (λ q same. subst (λ (q : Headed). Right (IsHeaded e) (rest q None)) (sym same) bare_right)
+  parts_right : (ss : List Section) (r : Option Qualident) → (not (is_empty ss) || is_some r) ≡ false → Right (IsHeaded e) (after (walk (section_step (home_at e k)) (names.begun e, no_parameters) ss) (λ q. rest q r))
+  parts_right [] None none = after_right (λ (q : Headed). q ≡ (names.begun e, no_parameters)) (IsHeaded e) (walk (section_step (home_at e k)) (names.begun e, no_parameters) []) _ (λ clear. refl) (λ q same. subst (λ (q : Headed). Right (IsHeaded e) (rest q None)) (sym same) bare_right)
   parts_right [] (Some q) none = absurd (true≢false none)
   parts_right (s ∷ ss) r none = absurd (true≢false none)
 
@@ -188,7 +188,7 @@ module _ (e : Env) (g : Env) (headed : IsHeaded e g) where
 
   pub begun_inside : Begun at
   begun_inside few = let d = headed.told few in record {
-    told = record { types = d.told.types; words = d.told.words; names = d.told.names; homed = d.told.homed; stands = stands_inside g.scopes.blocks g.procedures d.told.homed n headed.its its_there };
+    told = record { types = d.told.types; words = d.told.words; names = d.told.names; homed = d.told.homed; stands = stands_inside g.scopes.blocks g.procedures g.variables g.locals d.told.homed n headed.its its_there };
     residents = d.residents;
     variables = d.variables;
     proper = d.proper;

@@ -5,8 +5,7 @@ use Rattle.std.specs.Prelude.{is_none, not, pos}
 use Rattle.lil_text.specs.declared.tree.Ident.{Ident}
 use Rattle.lil_language.specs.declared.unit.Import.{Import}
 use Rattle.lil_types.specs.{Types.{entry, boolean}, declared.table.TypeEntry.TypeEntry}
-use Rattle.lil_declared.specs.declared.declared.RProc.{RProc}
-use Rattle.lil_scope.specs.{Built.built, Names.{Names, same, entry_in, thing_of, look_in, block_at, bound_at, member, with_block}, declared.env.Env.Env, declared.thing.{Entry.Entry, Thing.Thing}}
+use Rattle.lil_scope.specs.{Built.built, Names.{Names, same, entry_in, thing_of, look_in, block_at, bound_at, member, with_block}, declared.env.Env.Env, declared.thing.{Entry.Entry, Thing.Thing, Variable.Variable}}
 use Rattle.lil_scope.specs.Names as names
 use Rattle.lil_scope.specs.declared.thing.Thing.TheVariants as thing
 use Rattle.lil_resolved.specs.declared.resolved.RBase.TheVariants as b
@@ -15,7 +14,7 @@ use Rattle.lil_interfaces.specs.{declared.{importing.{Entered.Entered, Imported.
 use Rattle.lil_interfaces.specs.{Imports.{block_of, next_import, filled, entered_by, entered, take_node, found_node, is_hidden, thing_or_broken, name_step, module_step, import_by, import_step, imports_mean, nothing_imported}, Standard.{standard_names, start}}
 use Rattle.lil_interfaces.specs.declared.importing.Source.TheVariants as from
 use Rattle.lil_forms.specs.Scopes.{fine_more}
-use Rattle.lil_right_type.specs.{Right.{Right, after_right}, Found.{HasWord, ThingTold}, Homes.{Allowed, bound_many}}
+use Rattle.lil_right_type.specs.{Right.{Right, after_right}, Found.{HasWord, ThingTold}, Homes.{Allowed, IsHome, IsOwn, own_of, bound_many}}
 use Rattle.lil_right_sort.specs.{Growth.{all_then, Few, IsIn, IsThing, Declared, bound_declared, begun_declared}, Simple.walk_keeps}
 use Rattle.lil_right_value.specs.Names.{member_is}
 use Rattle.lil_right_decl.specs.{Filled.{names_many, filled_told}, Room.{types_left, named_fine, none_more, entered_once}, Shown.{Shown, all_shown}}
@@ -25,7 +24,7 @@ no_types : (n : ℕ) (e : TypeEntry) → entry [] n ≡ Some e → ⊥
 no_types n e is = grind arith
 
 abbrev StandardTold : List ℕ × Entry → Type 0
-StandardTold x = ThingTold [] [] [] x.1.thing
+StandardTold x = ThingTold [] [] x.1.thing
 
 abbrev StandardIn : List ℕ × Entry → Type 0
 StandardIn x = IsIn [] x.1.thing
@@ -36,14 +35,16 @@ truth_told w h = (b.Truth, refl, refl, h)
 standard_told : AllFine (λ x. StandardTold x × StandardIn x) standard_names
 standard_told = search (truth_told) parts 40 fits 4000
 
--- none of them is a procedure of a text, or a module
+-- none of them is a procedure or a variable of a text, or a module
 abbrev IsPlain : Thing → Type 0
 IsPlain (thing.Procedure r) = ⊥
+IsPlain (thing.Variable v) = ⊥
 IsPlain (thing.Module b) = ⊥
 IsPlain _ = Unit {0}
 
 abbrev IsOther : Thing → Type 0
 IsOther (thing.Procedure r) = Unit {0}
+IsOther (thing.Variable v) = Unit {0}
 IsOther (thing.Module b) = Unit {0}
 IsOther _ = ⊥
 
@@ -64,6 +65,7 @@ none_standard x zero m other is = by x other (subst (λ (o : Option Thing). IfSo
   where
     by : (x : Thing) → IsOther x → IsPlain x → ⊥
     by (thing.Procedure r) other h = h
+    by (thing.Variable v) other h = h
     by (thing.Module k) other h = h
     by _ other h = other
 none_standard x (suc zero) m other is = none-some x is
@@ -79,10 +81,12 @@ start_told = record {
     homed = record {
       two = omega arith;
       names = λ b m r is. absurd (none_standard (thing.Procedure r) b m tt is);
+      variables = λ b m v is. absurd (none_standard (thing.Variable v) b m tt is);
       modules = λ b m k is. absurd (none_standard (thing.Module k) b m tt is);
       blocks = λ n q is. absurd (none-some q is);
       apart = λ n m q p is. absurd (none-some q is);
       few = omega arith;
+      each = refl;
     };
     stands = record {
       path = record { level_is = refl; blocks = (inl refl, tt); own = inl (refl, refl); low = tt };
@@ -91,7 +95,7 @@ start_told = record {
     };
   };
   residents = (all_then (λ x. StandardTold x × StandardIn x) StandardIn (λ x h. h.1) standard_names standard_told, (tt, tt));
-  variables = tt;
+  variables = (tt, tt);
   proper = tt;
 }
 
@@ -101,16 +105,17 @@ pub record IsImported (s : Imported) : Type 0 where
   pub told : Few s.env.types → Declared s.env
   pub room : length s.env.types + types_left residents s.modules ≤ 16
   pub procedures : s.env.procedures ≡ []
+  pub variables : s.env.variables ≡ []
   pub procedure : s.env.procedure ≡ None
   pub blocks : AllFine (λ (m : Entered). m.block < length s.env.scopes.blocks) s.modules
 
 nothing : IsImported nothing_imported
 unfolding start with_shown with_procedure
-nothing = record { told = λ few. start_told; room = omega arith; procedures = refl; procedure = refl; blocks = tt }
+nothing = record { told = λ few. start_told; room = omega arith; procedures = refl; variables = refl; procedure = refl; blocks = tt }
 
 -- a thing that may be bound where this is declared
 abbrev IsTaken : Imported → Thing → Type 0
-IsTaken s x = Few s.env.types → IsThing s.env x
+IsTaken s x = Few s.env.types → IsThing s.env s.env.scopes.inner x
 
 -- a module more with an interface o, whose block is the next
 abbrev with_module : Imported → List ℕ → Option Interface → Imported
@@ -139,14 +144,14 @@ module _ (s : Imported) (n : List ℕ) (new : block_of s.modules n ≡ None) (h 
 
   module_told : (o : Option Interface) → named residents n ≡ o → IsImported (with_module s n o)
   unfolding filled m
-  module_told None is = record { told = told; room = let fewer = none_more m residents s.modules in let room = h.room in omega arith; procedures = h.procedures; procedure = h.procedure; blocks = blocks_more _ (count_is None) }
+  module_told None is = record { told = told; room = let fewer = none_more m residents s.modules in let room = h.room in omega arith; procedures = h.procedures; variables = h.variables; procedure = h.procedure; blocks = blocks_more _ (count_is None) }
   module_told (Some i) is =
       let shown : Shown i = named_fine Shown residents n i all_shown is in
       let once : length i.types + types_left residents (s.modules ++ m ∷ []) ≤ types_left residents s.modules = entered_once m residents s.modules i is new in
       let room = h.room in
       let f = filled_told (next_import s.modules) (length s.env.scopes.blocks) (with_block s.env) i shown (omega arith) told in
       let count = f.1 in
-      record { told = f.2; room = omega arith; procedures = h.procedures; procedure = h.procedure; blocks = blocks_more _ (count_is (Some i)) }
+      record { told = f.2; room = omega arith; procedures = h.procedures; variables = h.variables; procedure = h.procedure; blocks = blocks_more _ (count_is (Some i)) }
 
 -- and its block is among them
 abbrev IsEntered : Imported × ℕ → Type 0
@@ -174,36 +179,46 @@ take_told q i s x h j clear = record {
   told = λ few. bound_declared s.env (h.told few) s.env.scopes.inner i.name (names.entry x i.place) (j few);
   room = h.room;
   procedures = h.procedures;
+  variables = h.variables;
   procedure = h.procedure;
   blocks = subst (λ (count : ℕ). AllFine (λ (m : Entered). m.block < count) s.modules) (sym (bound_many s.env.scopes.blocks s.env.scopes.inner i.name (names.entry x i.place))) h.blocks;
 }
 
--- before the declarations there are no procedures
-no_procedure : {A : Type 0} (ps : List RProc) → ps ≡ [] → (n : ℕ) (q : RProc) → slice_get ps n ≡ Some q → A
-no_procedure ps none n q is = absurd (none-some q (ap (λ (ps : List RProc). slice_get ps n) (sym none) ∙ is))
+-- before the declarations there are no procedures and no variables
+none_there : {A X : Type 0} (xs : List A) → xs ≡ [] → (n : ℕ) (x : A) → slice_get xs n ≡ Some x → X
+none_there xs none n x is = absurd (none-some x (ap (λ xs. slice_get xs n) (sym none) ∙ is))
 
-member_is_thing : (e : Env) → Declared e → e.procedures ≡ [] → (k : ℕ) (n : List ℕ) (x : Thing) → member e.scopes k n ≡ Some x → IsThing e x
-member_is_thing e h none k n x is = (
-  subst (λ o. IfSome o (ThingTold e.types e.variables e.texts)) is (member_is (ThingTold e.types e.variables e.texts) e.scopes k n h.told.names),
-  (subst (λ o. IfSome o (IsIn e.types)) is (member_is (IsIn e.types) e.scopes k n h.residents), allowed x is),
-)
-  where
-    allowed : (x : Thing) → member e.scopes k n ≡ Some x → Allowed (length e.scopes.blocks) e.procedures x
-    allowed (thing.Procedure r) is = let d = h.told.homed.names k n r is in no_procedure e.procedures none r.number d.its d.there
-    allowed (thing.Module b) is = h.told.homed.modules k n b is
-    allowed _ is = tt
+module _ (s : Imported) (h : IsImported s) (d : Declared s.env) where
+  abbrev e : Env
+  e = s.env
+
+  no_variable : {X : Type 0} (b : ℕ) (v : Variable) (o : IsOwn e.procedures e.variables e.locals b v) → IsHome e.procedures b o.chain → X
+  no_variable b v o (inl home) = none_there e.variables h.variables v.number o.its (ap (λ (c : List ℕ). slice_get (own_of e.variables e.locals c) v.number) (sym home.1) ∙ o.there)
+  no_variable b v o (inr p) = none_there e.procedures h.procedures p.number p.its p.there
+
+  member_is_thing : (k : ℕ) (n : List ℕ) (x : Thing) → member e.scopes k n ≡ Some x → IsThing e e.scopes.inner x
+  member_is_thing k n x is = (
+    subst (λ o. IfSome o (ThingTold e.types e.texts)) is (member_is (ThingTold e.types e.texts) e.scopes k n d.told.names),
+    (subst (λ o. IfSome o (IsIn e.types)) is (member_is (IsIn e.types) e.scopes k n d.residents), allowed x is),
+  )
+    where
+      allowed : (x : Thing) → member e.scopes k n ≡ Some x → Allowed (length e.scopes.blocks) e.procedures e.variables e.locals e.scopes.inner x
+      allowed (thing.Procedure r) is = let p = d.told.homed.names k n r is in none_there e.procedures h.procedures r.number p.its p.there
+      allowed (thing.Variable v) is = let o = d.told.homed.variables k n v is in no_variable k v o o.home
+      allowed (thing.Module b) is = d.told.homed.modules k n b is
+      allowed _ is = tt
 
 found_told : (s : Imported) (i : Ident) (k : ℕ) → IsImported s → Right (IsTaken s) (found_node i (member s.env.scopes k i.name))
 unfolding found_node
 found_told s i k h clear few = by (member s.env.scopes k i.name) refl clear
   where
-    shown : (x : Thing) → is_hidden (Some x) ≡ false → IsThing s.env x → IsThing s.env (thing_or_broken (Some x))
+    shown : (x : Thing) → is_hidden (Some x) ≡ false → IsThing s.env s.env.scopes.inner x → IsThing s.env s.env.scopes.inner (thing_or_broken (Some x))
     shown thing.Hidden is told = absurd (true≢false is)
     shown _ is told = told
 
-    by : (o : Option Thing) → member s.env.scopes k i.name ≡ o → (is_none o ≡ false) × ((is_hidden o ≡ false) × ((not (built (thing_or_broken o)) ≡ false) × Unit {0})) → IsThing s.env (thing_or_broken o)
+    by : (o : Option Thing) → member s.env.scopes k i.name ≡ o → (is_none o ≡ false) × ((is_hidden o ≡ false) × ((not (built (thing_or_broken o)) ≡ false) × Unit {0})) → IsThing s.env s.env.scopes.inner (thing_or_broken o)
     by None is clear = absurd (true≢false clear.0)
-    by (Some x) is clear = shown x clear.1.0 (member_is_thing s.env (h.told few) h.procedures k i.name x is)
+    by (Some x) is clear = shown x clear.1.0 (member_is_thing s h (h.told few) k i.name x is)
 
 name_told : (k : ℕ) (s : Imported) (i : Ident) → IsImported s → Right IsImported (name_step k s i)
 name_told k s i h = after_right (IsTaken s) IsImported (found_node i (member s.env.scopes k i.name)) (take_node (from.Block k) i s) (found_told s i k h) (λ x told. take_told (from.Block k) i s x h told)
@@ -211,7 +226,7 @@ name_told k s i h = after_right (IsTaken s) IsImported (found_node i (member s.e
 own_told : (s : Imported) (i : Ident) → IsImported s → Right IsImported (module_step residents s i)
 own_told s i h =
     let e = entered_told s i.name h in
-    take_told from.Itself i (entered residents s i.name).0 (thing.Module (entered residents s i.name).1) e.0 (λ few. (tt, (tt, record { low = e.1; below = λ n q is. no_procedure (entered residents s i.name).0.env.procedures e.0.procedures n q is })))
+    take_told from.Itself i (entered residents s i.name).0 (thing.Module (entered residents s i.name).1) e.0 (λ few. (tt, (tt, record { low = e.1; below = λ n q is. none_there (entered residents s i.name).0.env.procedures e.0.procedures n q is })))
 
 import_told : (s : Imported) (x : Import) → IsImported s → Right IsImported (import_step residents s x)
 import_told s x h = by x.from

@@ -6,3 +6,4 @@ pub mod Imported
 pub mod Room
 pub mod Shown
 pub mod Told
+pub mod Variables

@@ -1,58 +1,21 @@
 -- What a text imports and declares without a fault is told.
-use Rattle.std.proofs.Common.{◌≡◌, ℕ, suc, ◌+◌, false, List, [], ◌∷◌, ◌++◌, length, map, take, drop, Option, Some, None, refl, sym, ap, subst, ◌∙◌, arith, true≢false}
-use Rattle.std.specs.Prelude.{is_some}
+use Rattle.std.proofs.Common.{◌≡◌, ℕ, List, [], ◌∷◌, length, map, take, drop, Option, Some, None, refl, sym, ap, subst, ◌∙◌, arith, true≢false}
 use Rattle.lil_text.specs.declared.tree.Ident.{Ident}
 use Rattle.lil_language.specs.declared.unit.{Import.Import, Block.{Block, roll-Block}, Decl.{Decl, TheFolds.{map-Decl, map-Block, fold-Block, fold-roll-Decl, fold-roll-Block, ind-Decl}, TheOpen.{Decl-F, Block-F}, TheViews.roll-Decl}, Sort.Sort, TypeName.TypeName, Variables.Variables}
 use Rattle.lil_language.specs.declared.unit.Decl.TheOpen as d
 use Rattle.lil_language.specs.declared.unit.Decl.TheVariants as v
-use Rattle.lil_declared.specs.declared.declared.{Mode.TheVariants.Plain, RProc.RProc, RVar.RVar}
 use Rattle.lil_report.specs.{Told.{Row, after, walk}, Laws.walk_map}
-use Rattle.lil_scope.specs.{Names.{bind, bind_at, entry, chain_by}, declared.env.{Env.Env, Wait.Wait}}
-use Rattle.lil_shapes.specs.{ListLaws.AllFine, ShapeSound.earlier}
-use Rattle.lil_forms.specs.Scopes.{fine_more}
+use Rattle.lil_scope.specs.{Names.{bind}, declared.env.{Env.Env, Wait.Wait}}
+use Rattle.lil_shapes.specs.ListLaws.{AllFine}
 use Rattle.lil_check_value.specs.Looks.{not_built, type_named}
 use Rattle.lil_check_type.specs.{Made.Made, Sorts.sort_means}
-use Rattle.lil_check_decl.specs.{Constants.constant_step, Decls.{type_thing, form_means, type_step, variables_step, bare, pointing, wait_step, settled, block_end, Means, Sense, expecting, decl_layer, block_layer, decl_sense, decl_step, procedure_means, decls_inside, decls_mean}, Headings.{variable_thing, with_variable, variable_step, here, heading_means}, declared.home.Home.Home}
+use Rattle.lil_check_decl.specs.{Constants.constant_step, Decls.{type_thing, form_means, type_step, variables_step, bare, pointing, wait_step, settled, block_end, Means, Sense, expecting, decl_layer, block_layer, decl_sense, decl_step, procedure_means, decls_inside, decls_mean}, Headings.{variable_step, here, heading_means}}
 use Rattle.lil_check_stmt.specs.Texts.{Texts, texts_in, texts, no_constant, no_type, no_variables, with_block}
-use Rattle.lil_interfaces.specs.{Interfaces.residents, Imports.{imports_mean, nothing_imported, export_step, exports_mean}, declared.importing.{Imported.Imported, Taken.Taken}}
+use Rattle.lil_interfaces.specs.{Interfaces.residents, Imports.{imports_mean, nothing_imported, export_step, exports_mean}, declared.importing.{Taken.Taken}}
 use Rattle.lil_right_type.specs.Right.{Right, IsAny, after_right}
-use Rattle.lil_right_sort.specs.{Growth.{Few, last_there, IsThing, Declared, declared_waits, bound_declared, more_declared}, Simple.{Begun, later_same, Follows, SortTold, sort_later, walk_keeps, named_right}, Sorts.sort_right}
+use Rattle.lil_right_sort.specs.{Growth.{Few, IsThing, Declared, declared_waits}, Simple.{Begun, later_same, SortTold, sort_later, walk_keeps, named_right}, Sorts.sort_right}
 use Rattle.lil_right_value.specs.Names.{Lies}
-use Rattle.lil_right_decl.specs.{Aimed.{few_aimed, aimed_declared}, Constants.{Behind, IsMeant, bind_behind, constant_behind}, Headings.{IsText, After, after_more, after_same, after_none, procedure_right}, Imported.{IsImported, imports_told}}
-
--- ---- variables of a type, in the block of the module where they belong to no procedure
-record IsHome (h : Home) : Type 0 where
-  pub level : h.owner ≡ None → h.level ≡ 1
-  pub mode : h.mode ≡ Plain
-
--- a variable that belongs to a procedure has a row of 90
-no_owner : (o : Option ℕ) → is_some o ≡ false → o ≡ None
-no_owner None h = refl
-no_owner (Some n) h = absurd (true≢false h)
-
--- outside of procedures is the module's block
-here_home : (e : Env) → Declared e → IsHome (here e)
-here_home e h = record { level = λ none. h.told.stands.path.level_is ∙ ap (λ (o : Option ℕ). suc (length (chain_by e.procedures o))) none; mode = refl }
-
-module _ (h : Home) (o : Option ℕ) where
-  abbrev IsAt : Env → Type 0
-  IsAt f = IsHome h × Lies f.types o
-
-  abbrev HasHome : Env → Env → Type 0
-  HasHome e f = Follows e f (IsAt f)
-
-variable_declared : (h : Home) (o : Option ℕ) (f : Env) (i : Ident) → h.owner ≡ None → Declared f → IsAt h o f → Declared (with_variable h o i.name (bind_at h.block f i (variable_thing h o f)).0)
-unfolding bind_at
-variable_declared h None f i none told at = absurd at.1
-variable_declared h (Some n) f i none told at =
-    let v : RVar = record { name = i.name; sort = n; mode = h.mode; owner = h.owner } in
-    let vs : List RVar = f.variables ++ v ∷ [] in
-    let more : Declared (record f { variables = vs; texts = f.texts }) = more_declared f told vs f.texts (λ j x is. earlier f.variables (v ∷ []) j x is) (λ j cs is. is) (fine_more _ f.variables v told.variables (at.1, none)) in
-    bound_declared (record f { variables = vs }) more h.block i.name (entry (variable_thing h (Some n) f) i.place) ((at.0.level none, at.0.mode, (v, last_there f.variables v, refl), at.1), (tt, tt))
-
-variable_behind : (h : Home) (o : Option ℕ) (e f : Env) (i : Ident) → HasHome h o e f → Right (HasHome h o e) (variable_step h o f i)
-unfolding after bind_at
-variable_behind h o e f i b clear = (b.0, λ few. let j = b.1 few in (variable_declared h o f i (no_owner h.owner clear.1.0) j.0 j.1, j.1))
+use Rattle.lil_right_decl.specs.{Aimed.{few_aimed, aimed_declared}, Constants.{Behind, IsMeant, bind_behind, constant_behind}, Headings.{IsText, After, after_more, after_same, after_none, procedure_right}, Imported.{IsImported, imports_told}, Variables.{HasHome, variable_behind}}
 
 -- ---- the end of a block
 wait_told : (ts : Texts) (e f : Env) (w : Wait) → After e ts f → Right (After e ts) (wait_step f w)
@@ -102,7 +65,7 @@ block_is = fold-roll-Block Sense Means decl_layer block_layer
 type_meant : (e : Env) (m : Made) → SortTold e m → IsMeant e m.0 (type_thing m.1)
 type_meant e m made = (made.0, λ few. let j = made.1 few in (j.0, by m.1 j.1))
   where
-    by : (o : Option ℕ) → Lies m.0.types o → IsThing m.0 (type_thing o)
+    by : (o : Option ℕ) → Lies m.0.types o → IsThing m.0 m.0.scopes.inner (type_thing o)
     by None there = absurd there
     by (Some n) there = (λ so. there, (tt, tt))
 
@@ -122,7 +85,7 @@ variables_behind : (e f : Env) (x : Variables) → Behind e f → Right (Behind 
 variables_behind e f x b = after_right (SortTold e) (Behind e) (sort_means f x.sort) (λ m. walk (variable_step (here m.0) m.1) m.0 x.names)
     (sort_made e f x.sort b)
     (λ m made clear.
-    let home : HasHome (here m.0) m.1 e m.0 = (made.0, λ few. let j = made.1 few in (j.0, (here_home m.0 j.0, j.1))) in
+    let home : HasHome (here m.0) m.1 e m.0 = (made.0, λ few. let j = made.1 few in (j.0, (refl, j.1))) in
     let last = walk_keeps (HasHome (here m.0) m.1 e) (variable_step (here m.0) m.1) (λ g i. variable_behind (here m.0) m.1 e g i) m.0 x.names home clear in
     (last.0, λ few. (last.1 few).0))
 

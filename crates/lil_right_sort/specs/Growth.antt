@@ -15,7 +15,7 @@ use Rattle.lil_scope.specs.declared.thing.Thing.TheVariants as thing
 use Rattle.lil_kinds.specs.{Forms.{form_in, shape, span_in, is_routine_form, of_form, parameters, parameters_of, parameters_in, result, result_of}}
 use Rattle.lil_shapes.specs.{BaseLaws.kind_base, Bases.{plain, base_by, base_form, base_at, kind_over, kind_at, is_composite, composite_at, composite_by}, ListLaws.AllFine, Pointers.lies_at, ShapeSound.{at_end, earlier}}
 use Rattle.lil_forms.specs.Scopes.{fine_more}
-use Rattle.lil_right_type.specs.{Homes.{Allowed, homed_bound, homed_begun}, Types.{HasNumbers, HasSpan, FormTold, IsTold, IsOrdinal, meant_is, own_base, known_ordinal, entry_known}, Words.{FormMeasured, AreMeasured}, Parts.base_itself, Found.{KindTold, signature, ThingTold, EnvTold}}
+use Rattle.lil_right_type.specs.{Homes.{Longer, AllLonger, Allowed, homed_bound, homed_begun, homed_more}, Types.{HasNumbers, HasSpan, FormTold, IsTold, IsOrdinal, meant_is, own_base, known_ordinal, entry_known}, Words.{FormMeasured, AreMeasured}, Parts.base_itself, Found.{KindTold, signature, ThingTold, EnvTold}}
 use Rattle.lil_right_value.specs.Names.{Told, bound_at_is}
 pub use Rattle.lil_right_type.specs.{Right.all_then, Homes.last_there}
 
@@ -59,7 +59,7 @@ base_below t n k h = grind (arith, nat_tests, slice_get_within)
 composite_below : (t : Table) (n : ℕ) → composite_at t n ≡ true → n < next t
 composite_below t n h = grind (arith, nat_tests, slice_get_within)
 
-past_end : {A : Type 0} (xs : List A) (i : ℕ) → slice_get xs i ≡ None → length xs ≤ i
+pub past_end : {A : Type 0} (xs : List A) (i : ℕ) → slice_get xs i ≡ None → length xs ≤ i
 past_end [] i h = omega arith
 past_end (x ∷ xs) zero h = absurd (none-some x (sym h))
 past_end (x ∷ xs) (suc i) h = let past : length xs ≤ i = past_end xs i h in omega arith
@@ -196,12 +196,12 @@ module _ {to : ℕ} (t u : Table) (told : IsTold t) (kept : Kept to t u) where
   heading_stays ps s here h =
       (same_heading parameters_in (λ e a form. sym (ap parameters_of form)) s here ∙ h.0, same_heading (of_form result_of) (λ e a form. sym (ap result_of form)) s here ∙ h.1)
 
-  -- as more variables and texts are declared too
-  module _ (vs ws : List RVar) (texts more : List (List ℕ)) (held : (i : ℕ) (v : RVar) → slice_get vs i ≡ Some v → slice_get ws i ≡ Some v) (kept_texts : (i : ℕ) (cs : List ℕ) → slice_get texts i ≡ Some cs → slice_get more i ≡ Some cs) where
-    thing_stays : (x : Thing) → IsIn t x → ThingTold t vs texts x → ThingTold u ws more x
+  -- as more texts are declared too
+  module _ (texts more : List (List ℕ)) (kept_texts : Longer texts more) where
+    thing_stays : (x : Thing) → IsIn t x → ThingTold t texts x → ThingTold u more x
     thing_stays (thing.Constant k) here h = (kind_told_stays k h.0, h.1)
     thing_stays (thing.Named n c) here h = (h.0, (h.1.0, kept_texts n h.1.0 h.1.1, h.1.2))
-    thing_stays (thing.Variable v) here h = (h.0, h.1, (h.2.0, held v.number h.2.0 h.2.1, h.2.2), lies_stays v.sort h.3)
+    thing_stays (thing.Variable v) here h = (h.0, lies_stays v.sort h.1)
     thing_stays (thing.Type s) here h = λ so. lies_stays s (h so)
     thing_stays (thing.Procedure x) here h = heading_stays [] x.sort here h
     thing_stays (thing.Resident x s) here h = heading_stays (signature x) s here h
@@ -347,9 +347,12 @@ shape_parameters t n ps r is = (ap parameters_in is, ap (of_form result_of) is)
 abbrev AreIn : Env → Type 0
 AreIn e = AllFine (AllFine (λ (x : List ℕ × Entry). IsIn e.types x.1.thing)) e.scopes.blocks
 
--- variables of the module, in which something lies
-abbrev pub Lie : Env → Type 0
-Lie e = AllFine (λ (v : RVar). (lies_at e.types v.sort ≡ true) × (v.owner ≡ None)) e.variables
+-- something lies in all variables, of the module and of each procedure
+abbrev pub AllLie : Table → List RVar → Type 0
+AllLie t vs = AllFine (λ (v : RVar). lies_at t v.sort ≡ true) vs
+
+abbrev pub Lie : Table → List RVar → List (List RVar) → Type 0
+Lie t vs ls = AllLie t vs × AllFine (AllLie t) ls
 
 -- the type of a procedure without parameters, which isn't a function
 abbrev pub IsProper : Table → RProc → Type 0
@@ -358,24 +361,27 @@ IsProper t q = (q.sort < next t) × ((parameters t q.sort ≡ []) × (result t q
 pub record Declared (e : Env) : Type 0 where
   pub told : EnvTold e
   pub residents : AreIn e
-  pub variables : Lie e
+  pub variables : Lie e.types e.variables e.locals
   pub proper : AllFine (IsProper e.types) e.procedures
 
--- a thing that may be bound there
-abbrev pub IsThing : Env → Thing → Type 0
-IsThing e x = ThingTold e.types e.variables e.texts x × (IsIn e.types x × Allowed (length e.scopes.blocks) e.procedures x)
+-- a thing that may be bound there, in a block
+abbrev pub IsThing : Env → ℕ → Thing → Type 0
+IsThing e k x = ThingTold e.types e.texts x × (IsIn e.types x × Allowed (length e.scopes.blocks) e.procedures e.variables e.locals k x)
 
 module _ (e : Env) (h : Declared e) where
   pub declared_kept : {to : ℕ} (u : Table) → Kept to e.types u → IsTold u → AreMeasured u → Declared (record e { types = u })
   declared_kept u kept told measured = record {
     told = record { types = told; words = measured; names = all_with _ _ _ (λ b. all_with _ _ _ (λ (x : List ℕ × Entry). same_things x.1.thing) b) e.scopes.blocks h.residents h.told.names; homed = h.told.homed; stands = h.told.stands };
     residents = all_then _ _ (λ b. all_then _ _ (λ (x : List ℕ × Entry). in_stays e.types u h.told.types kept x.1.thing) b) e.scopes.blocks h.residents;
-    variables = all_then _ _ (λ (v : RVar) j. (lies_stays e.types u h.told.types kept v.sort j.0, j.1)) e.variables h.variables;
+    variables = (they_lie e.variables h.variables.0, all_then _ _ they_lie e.locals h.variables.1);
     proper = all_then (IsProper e.types) (IsProper u) (λ (q : RProc) j. (kept.below q.sort j.0, heading_stays e.types u h.told.types kept [] q.sort j.0 j.1)) e.procedures h.proper;
   }
     where
-      same_things : (x : Thing) → IsIn e.types x → ThingTold e.types e.variables e.texts x → ThingTold u e.variables e.texts x
-      same_things = thing_stays e.types u h.told.types kept e.variables e.variables e.texts e.texts (λ i v is. is) (λ i cs is. is)
+      same_things : (x : Thing) → IsIn e.types x → ThingTold e.types e.texts x → ThingTold u e.texts x
+      same_things = thing_stays e.types u h.told.types kept e.texts e.texts (λ i cs is. is)
+
+      they_lie : (vs : List RVar) → AllLie e.types vs → AllLie u vs
+      they_lie = all_then _ _ (λ (v : RVar). lies_stays e.types u h.told.types kept v.sort)
 
   pub declared_added : (o : Origin) (form : TypeForm) → PartsTold e.types form → Few (added e.types o form) → Declared (record e { types = added e.types o form })
   declared_added o form parts few =
@@ -392,13 +398,13 @@ module _ (e : Env) (h : Declared e) where
   }
 
   -- a name more in a block, and a block more, without names
-  pub bound_declared : (k : ℕ) (n : List ℕ) (x : Entry) → IsThing e x.thing → Declared (with_blocks e (bound_at e.scopes.blocks k n x))
+  pub bound_declared : (k : ℕ) (n : List ℕ) (x : Entry) → IsThing e k x.thing → Declared (with_blocks e (bound_at e.scopes.blocks k n x))
   bound_declared k n x j = record {
     told = record {
       types = h.told.types;
       words = h.told.words;
       names = bound_at_is (Told e) e.scopes.blocks k n x h.told.names j.0;
-      homed = homed_bound e.scopes.blocks e.procedures k n x h.told.homed j.1.1;
+      homed = homed_bound e.scopes.blocks e.procedures e.variables e.locals k n x h.told.homed j.1.1;
       stands = h.told.stands;
     };
     residents = bound_at_is (IsIn e.types) e.scopes.blocks k n x h.residents j.1.0;
@@ -412,7 +418,7 @@ module _ (e : Env) (h : Declared e) where
       types = h.told.types;
       words = h.told.words;
       names = fine_more _ e.scopes.blocks [] h.told.names tt;
-      homed = homed_begun e.scopes.blocks e.procedures h.told.homed;
+      homed = homed_begun e.scopes.blocks e.procedures e.variables e.locals h.told.homed;
       stands = h.told.stands;
     };
     residents = fine_more _ e.scopes.blocks [] h.residents tt;
@@ -420,10 +426,24 @@ module _ (e : Env) (h : Declared e) where
     proper = h.proper;
   }
 
-  -- more variables and texts, behind those before
-  pub more_declared : (vs : List RVar) (texts : List (List ℕ)) → ((i : ℕ) (v : RVar) → slice_get e.variables i ≡ Some v → slice_get vs i ≡ Some v) → ((i : ℕ) (cs : List ℕ) → slice_get e.texts i ≡ Some cs → slice_get texts i ≡ Some cs)
-      → AllFine (λ (v : RVar). (lies_at e.types v.sort ≡ true) × (v.owner ≡ None)) vs → Declared (record e { variables = vs; texts = texts })
-  more_declared vs texts held kept all = record {
+  -- more variables, behind those before
+  pub variables_declared : (vs : List RVar) (ls : List (List RVar)) → Longer e.variables vs → AllLonger e.locals ls → length ls ≡ length e.locals → Lie e.types vs ls → Declared (record e { variables = vs; locals = ls })
+  variables_declared vs ls more locals many all = record {
+    told = record {
+      types = h.told.types;
+      words = h.told.words;
+      names = h.told.names;
+      homed = homed_more e.scopes.blocks e.procedures e.variables vs e.locals ls h.told.homed more locals many;
+      stands = h.told.stands;
+    };
+    residents = h.residents;
+    variables = all;
+    proper = h.proper;
+  }
+
+  -- more texts, likewise
+  pub texts_declared : (texts : List (List ℕ)) → Longer e.texts texts → Declared (record e { texts = texts })
+  texts_declared texts more = record {
     told = record {
       types = h.told.types;
       words = h.told.words;
@@ -432,9 +452,9 @@ module _ (e : Env) (h : Declared e) where
       stands = h.told.stands;
     };
     residents = h.residents;
-    variables = all;
+    variables = h.variables;
     proper = h.proper;
   }
     where
-      same_things : (x : Thing) → IsIn e.types x → ThingTold e.types e.variables e.texts x → ThingTold e.types vs texts x
-      same_things = thing_stays e.types e.types h.told.types (grown_kept e.types e.types (grown_same e.types)) e.variables vs e.texts texts held kept
+      same_things : (x : Thing) → IsIn e.types x → ThingTold e.types e.texts x → ThingTold e.types texts x
+      same_things = thing_stays e.types e.types h.told.types (grown_kept e.types e.types (grown_same e.types)) e.texts texts more

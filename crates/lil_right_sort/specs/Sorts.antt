@@ -59,7 +59,7 @@ arrays_right e p (i ∷ os) m h = after_right (ArraysTold e os) (SortTold e) (ar
         (λ told kept before now. (now, spans_stay m.0.types _ told kept os before.1.1))
 
 -- ---- pointers
-target_lies : (e : Env) (o : Option Thing) → IfSome o (ThingTold e.types e.variables e.texts) → lies_at e.types (target_so_far o) ≡ true
+target_lies : (e : Env) (o : Option Thing) → IfSome o (ThingTold e.types e.texts) → lies_at e.types (target_so_far o) ≡ true
 target_lies e None h = refl
 target_lies e (Some (thing.Type n)) h = by (n == proc || n == process) (λ is. h (ap not is))
   where

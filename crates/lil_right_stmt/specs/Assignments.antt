@@ -8,7 +8,7 @@ use Rattle.lil_types.specs.Types as types
 use Rattle.lil_types.specs.Types.{Table, integer, cardinal, char, base, is_whole, values}
 use Rattle.lil_declared.specs.declared.declared.RVar.{RVar}
 use Rattle.lil_resolved.specs.Kinds as kinds
-use Rattle.lil_resolved.specs.{Kinds.Scope, Resolved.shape_of, Views.{assign_is, copy_is, text_is, place_of}, declared.resolved.{RBase.RBase, RExpr.RExpr, RKind.RKind, RStmt.RStmt}}
+use Rattle.lil_resolved.specs.{Kinds.Scope, Resolved.shape_of, Views.{assign_is, copy_is, text_is, place_of}, declared.resolved.{RBase.RBase, RExpr.RExpr, RKind.RKind, RNamed.RNamed, RStmt.RStmt}}
 use Rattle.lil_resolved.specs.declared.resolved.RBase.TheVariants as b
 use Rattle.lil_shapes.specs.{BaseLaws.{same_sort, kind_base}, Bases.{base_at, kind_at, composite_at, numbers_of, characters_in, characters_at}, Pointers.lies_at}
 use Rattle.lil_scope.specs.declared.thing.Kind.{Kind}
@@ -67,7 +67,7 @@ module _ (t : Table) (told : IsTold t) where
         by None none = sym (no_kind t told r (or_of (is_some (kind_at t r)) (composite_at t r) lies (ap is_some none))).0 ∙ sym (same_sort (base t p.sort) (base t r) same) ∙ (no_kind t told p.sort composite).0
         by (Some j) at = absurd (other_base (base t r) j.base (kind_base t r j at) same)
 
-module _ {t : Table} {vs : List RVar} {around : List ℕ} {ts : Scope} (fits : Fits t vs around ts) (told : IsTold t) (looping : Bool) where
+module _ {t : Table} {vs : RNamed → Option RVar} {around : List ℕ} {ts : Scope} (fits : Fits t vs around ts) (told : IsTold t) (looping : Bool) where
   abbrev Made : Option RStmt → Type 0
   Made o = IsThere (StatementSound ts looping) o
 

@@ -1,22 +1,22 @@
 -- What stands between FOR and DO, where no test finds a fault: the variable, its first and its last value, and the step.
-use Rattle.std.proofs.Common.{◌≡◌, Bool, true, false, not, ◌||◌, List, Option, Some, None, if◌then◌else◌, refl, sym, ap, subst, ◌∙◌, arith, true≢false}
-use Rattle.std.specs.Prelude.{ℤ, pos, negsuc, ◌&&◌, ◌==◌, int_lt, is_some}
+use Rattle.std.proofs.Common.{◌≡◌, Bool, true, false, not, ◌||◌, List, Option, Some, None, refl, sym, ap, subst, ◌∙◌, arith, true≢false}
+use Rattle.std.specs.Prelude.{ℤ, pos, negsuc, ◌&&◌, int_lt, is_some}
 use Rattle.std.proofs.lemmas.{Int.ints, Bool.Decides.nat_tests}
 use Rattle.lil_base.specs.{Laws.bounds, Words.{Integer, in_type, is_zero}, declared.fault.Place.Place}
 use Rattle.lil_types.specs.{declared.table.Span.Span}
-use Rattle.lil_resolved.specs.{Bases.own_base, Kinds.{Scope, base_of, is_ordinal}, Sound.{IsSoundVariable, IsSoundValue, IsSoundWhole, IsStep}, Views.{base_view, kind_view, expression_of, for_is}, declared.resolved.{RExpr.RExpr, RStmt.RStmt, RVariable.RVariable}}
+use Rattle.lil_resolved.specs.{Bases.own_base, Kinds.{Scope, base_of, is_ordinal}, Sound.{IsSoundVariable, IsSoundValue, IsSoundWhole, IsStep}, Views.{base_view, kind_view, named_view, expression_of, for_is}, declared.resolved.{RExpr.RExpr, RStmt.RStmt, RVariable.RVariable}}
 use Rattle.lil_shapes.specs.{BaseLaws.kind_base, Bases.kind_at, ShapeSound.word_shaped}
 use Rattle.lil_scope.specs.declared.{env.Env.Env, thing.{Kind.Kind, Variable.Variable}}
 use Rattle.lil_scope.specs.declared.thing.Kind.TheVariants as k
 use Rattle.lil_scope.specs.declared.thing.Thing.TheVariants as t
 use Rattle.lil_kinds.specs.{Forms.span_of, Kinds.{suits, compatible, assignable, misses, is_constant}, declared.found.Found.Found}
 use Rattle.lil_kinds.specs.Kinds as Kinds
-use Rattle.lil_forms.specs.{Scopes.{Fits, has_shape, both_left, both_right}, Soundness.{soundness, variable_lies}, StatementSound.{StatementSound, AllSound, body_sound, made_sound}, Values.typed}
+use Rattle.lil_forms.specs.{Scopes.{Fits, has_shape, both_left, both_right}, Soundness.{soundness, variable_lies}, StatementSound.{StatementSound, AllSound, body_sound, made_sound}, Values.typed, Variables.seen}
 use Rattle.lil_check_value.specs.declared.names.Looked.{Looked}
 use Rattle.lil_check_value.specs.declared.names.Looked.TheVariants as l
-use Rattle.lil_right_type.specs.{Found.{IsFound, ThingTold, EnvTold}, Right.{Right, IsThere, is_so}, Sound.{value_sound, whole_sound}, Typed.{Yields, Suits, kept_if, mapped, suits_yields, stores_suits, assignable_stores}, Types.ordinal_is}
-use Rattle.lil_check_stmt.specs.Counting.{variable_by, variable_in, counted_variable, bounds_of, is_step, counted_with, is_nothing, is_other, is_plain, is_unfit, counting_with, counter_of, counter_node, start_node, limit_node, step_of, is_other_constant, is_no_step, step_node, count_of, counted}
-use Rattle.lil_right_value.specs.Names.{LookTold}
+use Rattle.lil_right_type.specs.{Found.{IsFound, EnvTold}, Right.{Right, IsThere, is_so}, Sound.{value_sound, whole_sound}, Typed.{Yields, Suits, kept_if, mapped, suits_yields, stores_suits, assignable_stores}, Types.ordinal_is}
+use Rattle.lil_check_stmt.specs.Counting.{variable_by, counted_variable, counting_named, bounds_of, is_step, counted_with, is_nothing, is_other, is_plain, is_unfit, counting_with, counter_of, counter_node, start_node, limit_node, step_of, is_other_constant, is_no_step, step_node, count_of, counted}
+use Rattle.lil_right_value.specs.Names.{SeenTold, LookTold}
 use Rattle.lil_right_sort.specs.Ranges.{node_right}
 use Rattle.lil_right_stmt.specs.Nodes.{Taken}
 
@@ -43,17 +43,17 @@ step_right a clear = by a.kind clear.0 clear.1.0 clear.1.1.0
     by _ constant other step = cc
 
 -- ---- the whole head
-module _ (e : Env) {ts : Scope} (fits : Fits e.types e.variables e.withs ts) (told : EnvTold e) where
-  -- a variable of the module, whose values have numbers
+module _ (e : Env) {ts : Scope} (fits : Fits e.types (seen e) e.withs ts) (told : EnvTold e) where
+  -- a variable whose values have numbers
   pub record IsCounter (c : Taken count_of) : Type 0 where
     pub variable : RVariable
     pub is : c.variable ≡ Some variable
     pub at : kind_at e.types c.sort ≡ Some variable.kind
     pub ordinal : is_ordinal (base_view variable.kind.base) ≡ true
-    pub sound : IsSoundVariable ts variable.number (kind_view variable.kind)
+    pub sound : IsSoundVariable ts (named_view variable.named) (kind_view variable.kind)
 
   abbrev BoundsSound : Taken counted_with → Type 0
-  BoundsSound x = IsSoundVariable ts x.variable.number (kind_view x.variable.kind) × IsSoundValue ts (expression_of x.from) (kind_view x.variable.kind) × IsSoundWhole ts (expression_of x.to) (base_of (kind_view x.variable.kind))
+  BoundsSound x = IsSoundVariable ts (named_view x.variable.named) (kind_view x.variable.kind) × IsSoundValue ts (expression_of x.from) (kind_view x.variable.kind) × IsSoundWhole ts (expression_of x.to) (base_of (kind_view x.variable.kind))
 
   abbrev pub IsCount : Taken counted → Type 0
   IsCount c = IsThere BoundsSound c.bounds × Steps c.by
@@ -65,19 +65,20 @@ module _ (e : Env) {ts : Scope} (fits : Fits e.types e.variables e.withs ts) (to
       by None h = h
       by (Some x) j = kept_if (StatementSound ts looping) (is_step c.by) _ h.1 (made_sound ts looping _ _ (for_is x.variable x.from x.to c.by ss) (j.0, j.1, j.2, step_sound c.by h.1, body_sound ts looping ss all))
 
-  counts_with : (v : Variable) → ThingTold e.types e.variables e.texts (t.Variable v) → (o : Option Span) → span_of e.types v.sort ≡ o → is_some o ≡ true → IsCounter (record { variable = counting_with e v; sort = v.sort })
+  counts_with : (v : Variable) → SeenTold e (t.Variable v) → (o : Option Span) → span_of e.types v.sort ≡ o → is_some o ≡ true → IsCounter (record { variable = counting_with e v; sort = v.sort })
   unfolding counted_variable
   counts_with v h None is some = cc
   counts_with v h (Some u) is some =
+      let x = h.1 in
       let o = ordinal_is e.types told.types v.sort u is in
-      let at : kind_at e.types h.2.0.sort ≡ Some o.kind = ap (kind_at e.types) h.2.2 ∙ o.at in
-      let lies = variable_lies fits v.number h.2.0 h.2.1 in
+      let at : kind_at e.types x.its.sort ≡ Some o.kind = ap (kind_at e.types) x.sort_is ∙ o.at in
+      let lies = variable_lies fits x.named x.its x.there in
       record {
-        variable = record { number = v.number; kind = o.kind };
-        is = ap (λ n. if n == 1 then counted_variable e.types e.variables v.number else None) h.0 ∙ ap (variable_in e.types v.number) h.2.1 ∙ ap (variable_by v.number) at;
+        variable = record { named = x.named; kind = o.kind };
+        is = ap (counting_named e) x.is ∙ ap (counted_variable e.types x.named) x.there ∙ ap (variable_by x.named) at;
         at = o.at;
         ordinal = o.ordinal;
-        sound = record { known = lies.2 ∙ ap Some (word_shaped e.types fits.shapes h.2.0.sort lies.0 (has_shape fits h.2.0.sort lies.0 lies.1) o.kind at); base = ap is_ordinal (own_base o.kind) ∙ o.ordinal };
+        sound = record { known = lies.2 ∙ ap Some (word_shaped e.types fits.shapes x.its.sort lies.0 (has_shape fits x.its.sort lies.0 lies.1) o.kind at); base = ap is_ordinal (own_base o.kind) ∙ o.ordinal };
       }
 
   pub counter_right : (p : Place) (x : Looked) → LookTold e told x → Right (IsThere IsCounter) (counter_node e p x)
@@ -89,7 +90,7 @@ module _ (e : Env) {ts : Scope} (fits : Fits e.types e.variables e.withs ts) (to
       second false c h = h
 
       by : (x : Looked) → LookTold e told x → is_nothing x ≡ false → is_other x ≡ false → is_unfit e.types x ≡ false → IsThere IsCounter (counter_of e x)
-      by (l.Thing (t.Variable v)) h nothing other unfit = counts_with v h.0 (span_of e.types v.sort) refl (is_so (Kinds.is_ordinal e.types (k.Of v.sort)) (second (not (is_plain v.mode)) _ unfit))
+      by (l.Thing (t.Variable v)) h nothing other unfit = counts_with v h (span_of e.types v.sort) refl (is_so (Kinds.is_ordinal e.types (k.Of v.sort)) (second (not (is_plain v.mode)) _ unfit))
       by (l.Thing t.Broken) h nothing other unfit = absurd h.0
       by _ h nothing other unfit = cc
 

@@ -5,7 +5,7 @@ use Rattle.std.proofs.lemmas.Int.{ints}
 use Rattle.lil_base.specs.declared.fault.Place.{Place}
 use Rattle.lil_types.specs.{Types.{Table, integer, cardinal, boolean, char, base}, Folding.fits, declared.table.Span.Span}
 use Rattle.lil_declared.specs.declared.declared.RVar.{RVar}
-use Rattle.lil_resolved.specs.{Kinds.{Kind, Scope, OfTruth, is_ordinal}, Sound.{IsSoundWhole, IsSoundHeld, IsSoundLabel, AreSoundLabels, AreSoundArms}, Resolved.Arms, Views.{case_is, exit_is, return_is, arm_is, base_view, label_of, armed, else_of, expression_of, place_of}, declared.resolved.{RArm.{RArm, out-RArm}, RBase.RBase, RExpr.RExpr, RLabel.RLabel, RStmt.RStmt}}
+use Rattle.lil_resolved.specs.{Kinds.{Kind, Scope, OfTruth, is_ordinal}, Sound.{IsSoundWhole, IsSoundHeld, IsSoundLabel, AreSoundLabels, AreSoundArms}, Resolved.Arms, Views.{case_is, exit_is, return_is, arm_is, base_view, label_of, armed, else_of, expression_of, place_of}, declared.resolved.{RArm.{RArm, out-RArm}, RBase.RBase, RExpr.RExpr, RLabel.RLabel, RNamed.RNamed, RStmt.RStmt}}
 use Rattle.lil_resolved.specs.Views as views
 use Rattle.lil_resolved.specs.declared.resolved.RBase.TheVariants as b
 use Rattle.lil_shapes.specs.{BaseLaws.{same_sort, number_sound}, Bases.{base_at, composite_at}, ListLaws.AllFine}
@@ -132,7 +132,7 @@ module _ (t : Table) (told : IsTold t) where
   selects (k.Of s) h = selects_span s (k.Of s) (base t s) h (equal (base t s) (base t s) refl) (λ f. refl) refl (itself s)
   selects _ h = cc
 
-module _ {t : Table} {vs : List RVar} {around : List ℕ} {ts : Scope} (fits : Fits t vs around ts) (told : IsTold t) where
+module _ {t : Table} {vs : RNamed → Option RVar} {around : List ℕ} {ts : Scope} (fits : Fits t vs around ts) (told : IsTold t) where
   -- ---- conditions
   abbrev pub IsCondition : RExpr → Type 0
   IsCondition x = IsSoundWhole ts (expression_of x) OfTruth

@@ -10,7 +10,7 @@ use Rattle.lil_resolved.specs.Views as views
 use Rattle.lil_shapes.specs.ListLaws.{AllFine}
 use Rattle.lil_scope.specs.{Names.chain, declared.{env.Env.Env, thing.Kind.Kind}}
 use Rattle.lil_kinds.specs.declared.found.{Found.Found, Located.Located}
-use Rattle.lil_forms.specs.{Scopes.{Fits, fine_more, deeper}, Soundness.soundness, StatementSound.{StatementSound, AllSound, body_sound, made_sound}}
+use Rattle.lil_forms.specs.{Scopes.{Fits, fine_more, deeper}, Soundness.soundness, StatementSound.{StatementSound, AllSound, body_sound, made_sound}, Variables.seen}
 use Rattle.lil_check_value.specs.{Looks.look, Values.means}
 use Rattle.lil_right_type.specs.{Found.{IsFound, IsLocated, EnvTold}, Homes.IsSeen, Right.{Right, IsThere, after_right, walk_right, IsAny}}
 use Rattle.lil_check_type.specs.Labels.{label_means}
@@ -74,7 +74,7 @@ pub record InBody (e : Env) (ts : Scope) : Type 0 where
 in_with : (e : Env) (ts : Scope) (r : Taken within) (x : Shape) → InBody e ts → InBody (within (Some r) e) (with_held ts x)
 in_with e ts r x h = record {
   returns = same e.procedure ∙ h.returns;
-  calls = λ n levels seen. let c = h.calls n levels seen in (c.0, (c.1.0, record { around = c.1.1.around; known = c.1.1.known; declared = c.1.1.declared }));
+  calls = λ n levels seen. let c = h.calls n levels seen in (c.0, (c.1.0, record { its = c.1.1.its; known = c.1.1.known; declared = c.1.1.declared }));
 }
   where
     same : (o : Option ℕ) → result_by (within (Some r) e) o ≡ result_by e o
@@ -83,10 +83,10 @@ in_with e ts r x h = record {
 
 -- ---- what is right in all surroundings: a statement, or a guard, and an arm behind right ones
 abbrev IsRight : {A : Type 0} → (Scope → Bool → A → Type 0) → (Env → Bool → Option A × List Row) → Type 0
-IsRight S m = (e : Env) (ts : Scope) → Fits e.types e.variables e.withs ts → EnvTold e → e.waits ≡ [] → InBody e ts → (looping : Bool) → Right (IsThere (S ts looping)) (m e looping)
+IsRight S m = (e : Env) (ts : Scope) → Fits e.types (seen e) e.withs ts → EnvTold e → e.waits ≡ [] → InBody e ts → (looping : Bool) → Right (IsThere (S ts looping)) (m e looping)
 
 abbrev IsRightArm : ArmMeaning → Type 0
-IsRightArm m = (e : Env) (ts : Scope) → Fits e.types e.variables e.withs ts → EnvTold e → e.waits ≡ [] → InBody e ts → (looping : Bool) (kind : Kind) (s : Selects e.types kind) (out : TypeOf no_arms) → AreArms ts looping s.over out → Right (AreArms ts looping s.over) (m e looping (Some kind) out)
+IsRightArm m = (e : Env) (ts : Scope) → Fits e.types (seen e) e.withs ts → EnvTold e → e.waits ≡ [] → InBody e ts → (looping : Bool) (kind : Kind) (s : Selects e.types kind) (out : TypeOf no_arms) → AreArms ts looping s.over out → Right (AreArms ts looping s.over) (m e looping (Some kind) out)
 
 -- ---- trees, each with its proof
 abbrev Tree : Type 0
@@ -115,7 +115,7 @@ arms_of xs = meanings arm_means IsRightArm xs
 abbrev guards_of : List GuardTree → List GuardMeaning
 guards_of xs = meanings guard_means (IsRight GuardSound) xs
 
-module _ (e : Env) (ts : Scope) (fits : Fits e.types e.variables e.withs ts) (told : EnvTold e) (settled : e.waits ≡ []) where
+module _ (e : Env) (ts : Scope) (fits : Fits e.types (seen e) e.withs ts) (told : EnvTold e) (settled : e.waits ≡ []) where
   -- a value, and what stands behind it
   behind_found : {B : Type 0} (Q : B → Type 0) (x : Expr) (k : Option Found → B × List Row) → ((a : Found) → IsFound (soundness fits) a → Right Q (k (Some a))) → Right Q (after (means e x) k)
   behind_found Q x k = behind_right (IsFound (soundness fits)) Q (means e x) k (means_right e (soundness fits) told settled x)
@@ -151,7 +151,7 @@ module _ (e : Env) (ts : Scope) (fits : Fits e.types e.variables e.withs ts) (to
         _ rs tt (all_of IsAny rs (λ r. tt))
 
 -- ---- each form
-module _ (e : Env) (ts : Scope) (fits : Fits e.types e.variables e.withs ts) (told : EnvTold e) (settled : e.waits ≡ []) (none : InBody e ts) (looping : Bool) where
+module _ (e : Env) (ts : Scope) (fits : Fits e.types (seen e) e.withs ts) (told : EnvTold e) (settled : e.waits ≡ []) (none : InBody e ts) (looping : Bool) where
   abbrev There : Option RStmt → Type 0
   There = IsThere (StatementSound ts looping)
 
@@ -187,7 +187,7 @@ module _ (e : Env) (ts : Scope) (fits : Fits e.types e.variables e.withs ts) (to
   return_there p (Some x) = behind_found e ts fits told settled There x _ (λ v h. subst (λ o. Right There (return_node e.types p o (Some v))) (sym none.returns) (return_right e.types There p v))
 
 -- statements inside of a WITH
-with_there : (e : Env) (ts : Scope) (fits : Fits e.types e.variables e.withs ts) (told : EnvTold e) → e.waits ≡ [] → InBody e ts → (looping : Bool) (r : Taken within) (xs : List Tree) → IsOpened fits told.types r
+with_there : (e : Env) (ts : Scope) (fits : Fits e.types (seen e) e.withs ts) (told : EnvTold e) → e.waits ≡ [] → InBody e ts → (looping : Bool) (r : Taken within) (xs : List Tree) → IsOpened fits told.types r
     → Right (IsThere (StatementSound ts looping)) (after (list_means (within (Some r) e) looping (means_of xs)) (λ ss. pure (with_record (Some r) ss)))
 with_there e ts fits told settled none looping r xs h = by r.place h
   where
@@ -195,7 +195,7 @@ with_there e ts fits told settled none looping r xs h = by r.place h
     by None h = absurd h
     by (Some p) h =
         let held = with_held ts (shape_of ts (place_of p.place)) in
-        behind_body (within (Some r) e) held (subst (λ s. Fits e.types e.variables (e.withs ++ s ∷ []) held) h.1 (deeper fits p h.0 h.2.there)) (record { types = told.types; words = told.words; names = told.names; homed = told.homed; stands = told.stands }) settled (in_with e ts r (shape_of ts (place_of p.place)) none) looping
+        behind_body (within (Some r) e) held (subst (λ s. Fits e.types (seen e) (e.withs ++ s ∷ []) held) h.1 (deeper fits p h.0 h.2.there)) (record { types = told.types; words = told.words; names = told.names; homed = told.homed; stands = told.stands }) settled (in_with e ts r (shape_of ts (place_of p.place)) none) looping
         (IsThere (StatementSound ts looping)) xs _ (λ ss all clear. made_sound ts looping _ _ (inside_is p.place ss) (h.2, body_sound held looping ss all))
 
 layer_right : (y : Stmt-F Tree ArmTree GuardTree) → IsRight StatementSound (statement_layer (meant (bare y)))
@@ -241,7 +241,7 @@ statement_right = by_forms
     (λ y. subst IsRightArm (sym (arm_rolled (bare_arm y))) (arm_layer_right y))
     (λ y. subst (IsRight GuardSound) (sym (guard_rolled (bare_guard y))) (guard_layer_right y))
 
-pub statements_right : (e : Env) (ts : Scope) → Fits e.types e.variables e.withs ts → EnvTold e → e.waits ≡ [] → InBody e ts → (looping : Bool) (xs : List Stmt) → Right (IsThere (AllSound ts looping)) (statements_mean e looping xs)
+pub statements_right : (e : Env) (ts : Scope) → Fits e.types (seen e) e.withs ts → EnvTold e → e.waits ≡ [] → InBody e ts → (looping : Bool) (xs : List Stmt) → Right (IsThere (AllSound ts looping)) (statements_mean e looping xs)
 unfolding statements_mean
 statements_right e ts fits told settled none looping xs =
     list_right (StatementSound ts looping) (λ x. IsRight StatementSound (statement_means x)) (λ x. statement_means x e looping) (λ x h. h e ts fits told settled none looping) xs (all_of (λ x. IsRight StatementSound (statement_means x)) xs statement_right)

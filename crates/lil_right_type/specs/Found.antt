@@ -1,5 +1,5 @@
 -- What is told of values: their kinds, and the forms that go with them.
-use Rattle.std.specs.Prelude.{◌≡◌, ℕ, ◌+◌, ◌≤◌, pos, negsuc, Bool, true, false, List, [], ◌∷◌, length, slice_get, Some, None}
+use Rattle.std.specs.Prelude.{◌≡◌, ℕ, ◌+◌, ◌≤◌, pos, negsuc, Bool, true, false, List, [], ◌∷◌, length, slice_get, Option, Some, None}
 use Rattle.lil_base.specs.Words.{between}
 use Rattle.lil_types.specs.{Types.{Table, base, char, cardinal, integer, address, proc, process}, declared.table.Parameter.Parameter}
 use Rattle.lil_declared.specs.declared.{declared.{Mode.TheVariants.Plain, RVar.RVar}, standard.Resident.Resident}
@@ -10,10 +10,10 @@ use Rattle.lil_scope.specs.declared.thing.Thing.TheVariants as t
 use Rattle.lil_kinds.specs.{Forms.{parameters, result}, declared.found.{Form.Form, Found.Found, Located.Located, Standing.Standing}}
 use Rattle.lil_kinds.specs.declared.found.Form.TheVariants as form
 use Rattle.lil_kinds.specs.declared.found.Standing.TheVariants as standing
-use Rattle.lil_resolved.specs.{Sizes.{place_depth, depth}, Sound.is_text, Views.{base_view, expression_of, place_of}, declared.resolved.{RBase.RBase, RExpr.RExpr, RKind.RKind}}
+use Rattle.lil_resolved.specs.{Sizes.{place_depth, depth}, Sound.is_text, Views.{base_view, expression_of, place_of}, declared.resolved.{RBase.RBase, RExpr.RExpr, RKind.RKind, RNamed.RNamed}}
 use Rattle.lil_resolved.specs.declared.resolved.RBase.TheVariants as b
 use Rattle.lil_shapes.specs.{Bases.{base_at, kind_at}, ListLaws.AllFine, Operators.has_number, Pointers.lies_at}
-use Rattle.lil_forms.specs.Properties.{Property, nothing, value_kind}
+use Rattle.lil_forms.specs.{Properties.{Property, nothing, value_kind}, Variables.seen}
 use Rattle.lil_right_type.specs.{Homes.{Homed, Stands}, Types.IsTold, Words.AreMeasured}
 
 -- ---- kinds
@@ -53,7 +53,7 @@ IsBare (k.Scalar s w) = Unit {0}
 IsBare k.Nil = Unit {0}
 IsBare _ = ⊥
 
-module _ {t : Table} {vs : List RVar} {around : List ℕ} (P : Property t vs around) where
+module _ {t : Table} {vs : RNamed → Option RVar} {around : List ℕ} (P : Property t vs around) where
   -- a value of a type with the property, whose code takes at most a word more than so many
   pub record IsValue (s d : ℕ) (x : RExpr) : Type 0 where
     pub as_kind : RKind
@@ -106,7 +106,7 @@ HasPlace standing.Value kind f = Unit {0}
 HasPlace standing.Variable kind f = IsPlaced kind f
 HasPlace standing.Character kind f = IsPlaced kind f
 
-pub record IsFound {t : Table} {vs : List RVar} {around : List ℕ} (P : Property t vs around) (a : Found) : Type 0 where
+pub record IsFound {t : Table} {vs : RNamed → Option RVar} {around : List ℕ} (P : Property t vs around) (a : Found) : Type 0 where
   pub kind : KindTold t a.kind
   pub form : GoesWith P a.depth a.kind a.form
   pub place : HasPlace a.standing a.kind a.form
@@ -115,7 +115,7 @@ pub record IsFound {t : Table} {vs : List RVar} {around : List ℕ} (P : Propert
 
 -- a value that is told, whatever lies in the variables
 abbrev pub IsKnown : Env → Found → Type 0
-IsKnown e a = IsFound (nothing e.types e.variables e.withs) a
+IsKnown e a = IsFound (nothing e.types (seen e) e.withs) a
 
 -- ---- names
 -- the parameters of each resident procedure
@@ -139,24 +139,24 @@ signature r.Deallocate = place address ∷ value cardinal ∷ []
 signature r.NewProcess = value proc ∷ value address ∷ value cardinal ∷ place process ∷ []
 signature r.Transfer = place process ∷ place process ∷ []
 
--- what a name stands for is told, by the types, the variables and the texts of constants
-abbrev pub ThingTold : Table → List RVar → List (List ℕ) → Thing → Type 0
-ThingTold types vs texts (t.Constant kind) = KindTold types kind × IsBare kind
-ThingTold types vs texts (t.Named n c) = (c.first ≤ 255) × ((cs : List ℕ) × (slice_get texts n ≡ Some cs) × TextTold c cs)
-ThingTold types vs texts t.Nil = Unit {0}
-ThingTold types vs texts (t.Variable v) = (v.level ≡ 1) × (v.mode ≡ Plain) × ((x : RVar) × (slice_get vs v.number ≡ Some x) × (x.sort ≡ v.sort)) × (lies_at types v.sort ≡ true)
-ThingTold types vs texts (t.Type s) = built (t.Type s) ≡ true → lies_at types s ≡ true
-ThingTold types vs texts (t.Procedure x) = (parameters types x.sort ≡ []) × (result types x.sort ≡ None)
-ThingTold types vs texts (t.Resident x s) = (parameters types s ≡ signature x) × (result types s ≡ None)
-ThingTold types vs texts (t.Standard x) = Unit {0}
-ThingTold types vs texts (t.Module b) = Unit {0}
-ThingTold types vs texts t.Hidden = Unit {0}
-ThingTold types vs texts t.Broken = ⊥
+-- what a name stands for is told, by the types and the texts of constants
+abbrev pub ThingTold : Table → List (List ℕ) → Thing → Type 0
+ThingTold types texts (t.Constant kind) = KindTold types kind × IsBare kind
+ThingTold types texts (t.Named n c) = (c.first ≤ 255) × ((cs : List ℕ) × (slice_get texts n ≡ Some cs) × TextTold c cs)
+ThingTold types texts t.Nil = Unit {0}
+ThingTold types texts (t.Variable v) = (v.mode ≡ Plain) × (lies_at types v.sort ≡ true)
+ThingTold types texts (t.Type s) = built (t.Type s) ≡ true → lies_at types s ≡ true
+ThingTold types texts (t.Procedure x) = (parameters types x.sort ≡ []) × (result types x.sort ≡ None)
+ThingTold types texts (t.Resident x s) = (parameters types s ≡ signature x) × (result types s ≡ None)
+ThingTold types texts (t.Standard x) = Unit {0}
+ThingTold types texts (t.Module b) = Unit {0}
+ThingTold types texts t.Hidden = Unit {0}
+ThingTold types texts t.Broken = ⊥
 
--- the names of all blocks and their types are told, and where procedures are declared
+-- the names of all blocks and their types are told, and where procedures and variables are declared
 pub record EnvTold (e : Env) : Type 0 where
   pub types : IsTold e.types
   pub words : AreMeasured e.types
-  pub names : AllFine (AllFine (λ (x : List ℕ × Entry). ThingTold e.types e.variables e.texts x.1.thing)) e.scopes.blocks
-  pub homed : Homed e.scopes.blocks e.procedures
+  pub names : AllFine (AllFine (λ (x : List ℕ × Entry). ThingTold e.types e.texts x.1.thing)) e.scopes.blocks
+  pub homed : Homed e.scopes.blocks e.procedures e.variables e.locals
   pub stands : Stands e.scopes.outer e.scopes.inner e.procedures e.procedure

@@ -1,14 +1,16 @@
--- Where procedures are declared, and from where names reach them.
+-- Where procedures and variables are declared, and from where names reach them.
 use Rattle.std.proofs.Common.{◌≡◌, ℕ, zero, suc, ◌+◌, ◌-◌, ◌<◌, ◌≤◌, ◌⊎◌, inl, inr, Bool, true, false, List, [], ◌∷◌, ◌++◌, length, drop, slice_get, Option, Some, None, IfSome, if◌then◌else◌, refl, sym, ap, subst, ◌∙◌, ⊎_elim, arith, length-drop}
-use Rattle.std.specs.Prelude.{nat_lt, slice_set}
-use Rattle.std.proofs.lemmas.{Option.{none-some, same_Some, slice_get_within}, Bool.{cases_lt, Decides.nat_tests}}
-use Rattle.lil_declared.specs.declared.declared.RProc.{RProc}
+use Rattle.std.specs.Prelude.{◌==◌, nat_lt, slice_set}
+use Rattle.std.proofs.lemmas.{Option.{none-some, same_Some, slice_get_within}, Bool.{Decides.nat_tests}}
+use Rattle.lil_declared.specs.declared.declared.{RProc.RProc, RVar.RVar}
 use Rattle.lil_resolved.specs.Kinds as kinds
+use Rattle.lil_resolved.specs.declared.resolved.RNamed.{RNamed}
+use Rattle.lil_resolved.specs.declared.resolved.RNamed.TheVariants as named
 use Rattle.std.proofs.lemmas.List.{length_push}
 use Rattle.lil_shapes.specs.{ListLaws.AllFine, ShapeSound.{at_end, earlier}}
-use Rattle.lil_forms.specs.Scopes.{fine_more}
+use Rattle.lil_forms.specs.{Scopes.fine_more, Variables.{level_named, named_at, locals_out, seen_in}}
 use Rattle.lil_right_type.specs.Right.{all_then}
-use Rattle.lil_scope.specs.{declared.{env.Env.Env, scope.Scopes.Scopes, thing.{Entry.Entry, Routine.Routine, Thing.Thing}}, Names.{Names, same, entry_in, thing_of, look_in, inner_or, block_at, find_in, find, member, is_new, bound, bound_at, level, visible, around_of, chain_by, chain, levels_out}}
+use Rattle.lil_scope.specs.{declared.{env.Env.Env, scope.Scopes.Scopes, thing.{Entry.Entry, Routine.Routine, Thing.Thing, Variable.Variable}}, Names.{Names, same, entry_in, thing_of, look_in, inner_or, block_at, find_in, find, is_new, bound, bound_at, around_of, chain_by, chain, levels_out, locals_in}}
 use Rattle.lil_scope.specs.declared.thing.Thing.TheVariants as thing
 
 -- ---- what is found by a name stands in one of the blocks that are looked at
@@ -110,6 +112,20 @@ pub record IsDeclared (ps : List RProc) (b : ℕ) (r : Routine) : Type 0 where
   pub home : IsHome ps b its.around
   pub level_is : r.level ≡ suc (length its.around)
 
+-- the variables of the procedure with which a chain begins, those of the module where there is none
+abbrev pub own_of : List RVar → List (List RVar) → List ℕ → List RVar
+own_of vs ls [] = vs
+own_of vs ls (n ∷ ns) = locals_in ls n
+
+-- a variable that is declared in a block
+pub record IsOwn (ps : List RProc) (vs : List RVar) (ls : List (List RVar)) (b : ℕ) (v : Variable) : Type 0 where
+  pub chain : List ℕ
+  pub home : IsHome ps b chain
+  pub level_is : v.level ≡ suc (length chain)
+  pub its : RVar
+  pub there : slice_get (own_of vs ls chain) v.number ≡ Some its
+  pub sort_is : its.sort ≡ v.sort
+
 -- a block that names see from within a chain of procedures: that of the standard names, or one of the chain
 abbrev pub OnPath : List RProc → List ℕ → ℕ → Type 0
 OnPath ps chain b = (b ≡ 0) ⊎ ((rest : List ℕ) × IsRest chain rest × IsHome ps b rest)
@@ -133,14 +149,16 @@ pub record IsModule (count : ℕ) (ps : List RProc) (b : ℕ) : Type 0 where
   pub low : b < count
   pub below : (n : ℕ) (q : RProc) → slice_get ps n ≡ Some q → b < q.block
 
--- the names of procedures and modules are told by their blocks
-pub record Homed (bs : List Names) (ps : List RProc) : Type 0 where
+-- the names of procedures, variables and modules are told by their blocks
+pub record Homed (bs : List Names) (ps : List RProc) (vs : List RVar) (ls : List (List RVar)) : Type 0 where
   pub two : 2 ≤ length bs
   pub names : (b : ℕ) (m : List ℕ) (r : Routine) → look_in (block_at bs b) m ≡ Some (thing.Procedure r) → IsDeclared ps b r
+  pub variables : (b : ℕ) (m : List ℕ) (v : Variable) → look_in (block_at bs b) m ≡ Some (thing.Variable v) → IsOwn ps vs ls b v
   pub modules : (b : ℕ) (m : List ℕ) (k : ℕ) → look_in (block_at bs b) m ≡ Some (thing.Module k) → IsModule (length bs) ps k
   pub blocks : (n : ℕ) (q : RProc) → slice_get ps n ≡ Some q → IsBlock (length bs) ps n q
   pub apart : (n m : ℕ) (q p : RProc) → slice_get ps n ≡ Some q → slice_get ps m ≡ Some p → q.block ≡ p.block → n ≡ m
   pub few : length ps ≤ 250
+  pub each : length ls ≡ length ps
 
 -- the block at hand is that of the procedure at hand, and sees those around it
 pub record Stands (outer : List ℕ) (inner : ℕ) (ps : List RProc) (at : Option ℕ) : Type 0 where
@@ -156,21 +174,34 @@ pub record IsSeen (ps : List RProc) (chain : List ℕ) (number levels : ℕ) : T
   pub low : number < 250
   pub few : levels < 256
 
+-- ---- variables: one that is seen from within a chain of procedures, of this type
+pub record IsShown (vs : List RVar) (ls : List (List RVar)) (chain : List ℕ) (o : Option RNamed) (sort : ℕ) : Type 0 where
+  pub named : RNamed
+  pub is : o ≡ Some named
+  pub its : RVar
+  pub there : seen_in vs ls chain named ≡ Some its
+  pub sort_is : its.sort ≡ sort
+
 -- what a thing is to the procedure at hand
 abbrev pub Seen : List RProc → List ℕ → Env → Thing → Type 0
 Seen ps chain e (thing.Procedure r) = IsSeen ps chain r.number (levels_out e r.level)
+Seen ps chain e (thing.Variable v) = IsShown e.variables e.locals chain (named_at e v) v.sort
 Seen ps chain e (thing.Module b) = IsModule (length e.scopes.blocks) ps b
 Seen ps chain e _ = Unit {0}
 
--- a thing that is bound outside of headings
-abbrev pub Allowed : ℕ → List RProc → Thing → Type 0
-Allowed count ps (thing.Procedure r) = ⊥
-Allowed count ps (thing.Module b) = IsModule count ps b
-Allowed count ps _ = Unit {0}
+-- a thing that is bound in a block outside of headings
+abbrev pub Allowed : ℕ → List RProc → List RVar → List (List RVar) → ℕ → Thing → Type 0
+Allowed count ps vs ls b (thing.Procedure r) = ⊥
+Allowed count ps vs ls b (thing.Variable v) = IsOwn ps vs ls b v
+Allowed count ps vs ls b (thing.Module k) = IsModule count ps k
+Allowed count ps vs ls b _ = Unit {0}
 
--- ---- more procedures
-abbrev pub Longer : List RProc → List RProc → Type 0
-Longer ps qs = (n : ℕ) (q : RProc) → slice_get ps n ≡ Some q → slice_get qs n ≡ Some q
+-- ---- more procedures and variables
+abbrev pub Longer : {A : Type 0} → List A → List A → Type 0
+Longer {A} xs ys = (n : ℕ) (x : A) → slice_get xs n ≡ Some x → slice_get ys n ≡ Some x
+
+abbrev pub AllLonger : List (List RVar) → List (List RVar) → Type 0
+AllLonger ls ms = (p : ℕ) → Longer (locals_in ls p) (locals_in ms p)
 
 module _ (ps qs : List RProc) (longer : Longer ps qs) where
   home_stays : (b : ℕ) (chain : List ℕ) → IsHome ps b chain → IsHome qs b chain
@@ -179,6 +210,13 @@ module _ (ps qs : List RProc) (longer : Longer ps qs) where
 
   declared_stays : (b : ℕ) (r : Routine) → IsDeclared ps b r → IsDeclared qs b r
   declared_stays b r h = record { its = h.its; there = longer r.number h.its h.there; home = home_stays b h.its.around h.home; level_is = h.level_is }
+
+  own_stays : (vs ws : List RVar) (ls ms : List (List RVar)) → Longer vs ws → AllLonger ls ms → (b : ℕ) (v : Variable) → IsOwn ps vs ls b v → IsOwn qs ws ms b v
+  own_stays vs ws ls ms more locals b v h = record { chain = h.chain; home = home_stays b h.chain h.home; level_is = h.level_is; its = h.its; there = by h.chain h.there; sort_is = h.sort_is }
+    where
+      by : (chain : List ℕ) → slice_get (own_of vs ls chain) v.number ≡ Some h.its → slice_get (own_of ws ms chain) v.number ≡ Some h.its
+      by [] is = more v.number h.its is
+      by (p ∷ ps) is = locals p v.number h.its is
 
   on_path_stays : (chain : List ℕ) (b : ℕ) → OnPath ps chain b → OnPath qs chain b
   on_path_stays chain b (inl h) = inl h
@@ -230,7 +268,39 @@ none_left : (xs : List ℕ) → [] ≡ drop (length xs) xs
 none_left [] = refl
 none_left (x ∷ xs) = none_left xs
 
-module _ (bs : List Names) (ps : List RProc) (h : Homed bs ps) where
+first_left : (n : ℕ) (xs : List ℕ) (y : ℕ) (ys : List ℕ) → y ∷ ys ≡ drop n xs → slice_get xs n ≡ Some y
+first_left zero [] y ys is = cc
+first_left (suc n) [] y ys is = cc
+first_left zero (x ∷ xs) y ys is = cc
+first_left (suc n) (x ∷ xs) y ys is = first_left n xs y ys is
+
+-- a variable of a procedure is so many levels out as its procedure
+abbrev named_from : ℕ → Variable → Option RNamed
+named_from count v = if v.level == 1 then Some (named.Module v.number) else level_named (count - v.level) v.number
+
+shown_out : (vs : List RVar) (ls : List (List RVar)) (chain own : List ℕ) (v : Variable) (x : RVar) → IsRest chain own → length chain ≤ 250 → v.level ≡ suc (length own) → slice_get (own_of vs ls own) v.number ≡ Some x → x.sort ≡ v.sort
+    → IsShown vs ls chain (named_from (suc (length chain)) v) v.sort
+shown_out vs ls chain [] v x rest few at there sort = record {
+  named = named.Module v.number;
+  is = ap (λ (n : ℕ). if n == 1 then Some (named.Module v.number) else level_named (suc (length chain) - v.level) v.number) at;
+  its = x;
+  there = there;
+  sort_is = sort;
+}
+shown_out vs ls chain (p ∷ own) v x rest few at there sort =
+    let long : suc (length own) ≡ length chain - rest.0 = ap length rest.2 ∙ length-drop rest.0 chain in
+    let inner : (v.level == 1) ≡ false = grind (arith, nat_tests, at) in
+    let out : suc (length chain) - v.level ≡ rest.0 = omega (arith, at, long) in
+    let low : nat_lt rest.0 256 ≡ true = grind (arith, nat_tests, rest.1, few) in
+    record {
+      named = named.Level rest.0 v.number;
+      is = (λ i. if inner i then Some (named.Module v.number) else level_named (out i) v.number) ∙ ap (λ c. if c then Some (named.Level rest.0 v.number) else None) low;
+      its = x;
+      there = ap (λ (o : Option ℕ). slice_get (locals_out ls o) v.number) (first_left rest.0 chain p own rest.2) ∙ there;
+      sort_is = sort;
+    }
+
+module _ (bs : List Names) (ps : List RProc) (vs : List RVar) (ls : List (List RVar)) (h : Homed bs ps vs ls) where
   -- a block belongs to one procedure
   home_one : (b : ℕ) (c d : List ℕ) → IsHome ps b c → IsHome ps b d → c ≡ d
   home_one b c d (inl x) (inl y) = x.1 ∙ sym y.1
@@ -258,6 +328,10 @@ module _ (bs : List Names) (ps : List RProc) (h : Homed bs ps) where
           few = omega (arith, out.1, stands.few, h.few);
         }
 
+    own_seen : (b : ℕ) (v : Variable) → OnPath ps (chain_by ps at) b → IsOwn ps vs ls b v → IsShown vs ls (chain_by ps at) (named_from (length s.outer) v) v.sort
+    own_seen b v on o = subst (λ (n : ℕ). IsShown vs ls (chain_by ps at) (named_from n v) v.sort) (sym stands.path.level_is)
+        (shown_out vs ls (chain_by ps at) o.chain v o.its (rest_of (chain_by ps at) b o.chain on o.home) (omega (arith, stands.few, h.few)) o.level_is o.there o.sort_is)
+
     abbrev Found : List ℕ → Thing → Type 0
     Found n x = Stood bs (OnPath ps (chain_by ps at)) n x
 
@@ -267,27 +341,42 @@ module _ (bs : List Names) (ps : List RProc) (h : Homed bs ps) where
     pub found_procedure : (n : List ℕ) (r : Routine) → find s n ≡ Some (thing.Procedure r) → IsSeen ps (chain_by ps at) r.number (if nat_lt 1 r.level then length s.outer + 1 - r.level else 0)
     found_procedure n r is = let f = found_there n (thing.Procedure r) is in declared_seen f.block r f.here (h.names f.block n r f.there)
 
+    pub found_variable : (n : List ℕ) (v : Variable) → find s n ≡ Some (thing.Variable v) → IsShown vs ls (chain_by ps at) (named_from (length s.outer) v) v.sort
+    found_variable n v is = let f = found_there n (thing.Variable v) is in own_seen f.block v f.here (h.variables f.block n v f.there)
+
     pub found_module : (n : List ℕ) (b : ℕ) → find s n ≡ Some (thing.Module b) → IsModule (length bs) ps b
     found_module n b is = let f = found_there n (thing.Module b) is in h.modules f.block n b f.there
 
-    -- a module that is imported has no procedures of the text but those of the module
+    module_path : (b : ℕ) → b ≡ 1 → OnPath ps (chain_by ps at) b
+    module_path b is = inr ([], (length (chain_by ps at), omega arith, none_left (chain_by ps at)), inl (is, refl))
+
+    -- a module that is imported has no procedures and variables of the text but those of the module
     pub member_procedure : (b : ℕ) (n : List ℕ) (r : Routine) → IsModule (length bs) ps b → look_in (block_at bs b) n ≡ Some (thing.Procedure r) → IsSeen ps (chain_by ps at) r.number (if nat_lt 1 r.level then length s.outer + 1 - r.level else 0)
     member_procedure b n r m is = by (h.names b n r is) (h.names b n r is).home
       where
         by : (d : IsDeclared ps b r) → IsHome ps b d.its.around → IsSeen ps (chain_by ps at) r.number (if nat_lt 1 r.level then length s.outer + 1 - r.level else 0)
-        by d (inl x) = declared_seen b r (inr ([], (length (chain_by ps at), omega arith, none_left (chain_by ps at)), inl (x.0, refl))) d
+        by d (inl x) = declared_seen b r (module_path b x.0) d
         by d (inr o) = absurd (omega (arith, m.below o.number o.its o.there, o.block))
 
+    pub member_variable : (b : ℕ) (n : List ℕ) (v : Variable) → IsModule (length bs) ps b → look_in (block_at bs b) n ≡ Some (thing.Variable v) → IsShown vs ls (chain_by ps at) (named_from (length s.outer) v) v.sort
+    member_variable b n v m is = by (h.variables b n v is) (h.variables b n v is).home
+      where
+        by : (o : IsOwn ps vs ls b v) → IsHome ps b o.chain → IsShown vs ls (chain_by ps at) (named_from (length s.outer) v) v.sort
+        by o (inl x) = own_seen b v (module_path b x.0) o
+        by o (inr x) = absurd (omega (arith, m.below x.number x.its x.there, x.block))
+
 -- ---- names and blocks more
-pub homed_bound : (bs : List Names) (ps : List RProc) (k : ℕ) (n : List ℕ) (e : Entry) → Homed bs ps → Allowed (length bs) ps e.thing → Homed (bound_at bs k n e) ps
-homed_bound bs ps k n e h allowed = record {
+pub homed_bound : (bs : List Names) (ps : List RProc) (vs : List RVar) (ls : List (List RVar)) (k : ℕ) (n : List ℕ) (e : Entry) → Homed bs ps vs ls → Allowed (length bs) ps vs ls k e.thing → Homed (bound_at bs k n e) ps vs ls
+homed_bound bs ps vs ls k n e h allowed = record {
   two = omega (arith, many, h.two);
-  names = λ b m r is. ⊎_elim (h.names b m r) (λ (new : (b ≡ k) × (thing.Procedure r ≡ e.thing)). absurd (subst (Allowed (length bs) ps) (sym new.1) allowed)) (look_more bs k n e b m (thing.Procedure r) is);
+  names = λ b m r is. ⊎_elim (h.names b m r) (λ (new : (b ≡ k) × (thing.Procedure r ≡ e.thing)). absurd (subst (Allowed (length bs) ps vs ls k) (sym new.1) allowed)) (look_more bs k n e b m (thing.Procedure r) is);
+  variables = λ b m v is. ⊎_elim (h.variables b m v) (λ (new : (b ≡ k) × (thing.Variable v ≡ e.thing)). subst (λ (c : ℕ). IsOwn ps vs ls c v) (sym new.0) (subst (Allowed (length bs) ps vs ls k) (sym new.1) allowed)) (look_more bs k n e b m (thing.Variable v) is);
   modules = λ b m j is. subst (λ (c : ℕ). IsModule c ps j) (sym many)
-      (⊎_elim (h.modules b m j) (λ (new : (b ≡ k) × (thing.Module j ≡ e.thing)). subst (Allowed (length bs) ps) (sym new.1) allowed) (look_more bs k n e b m (thing.Module j) is));
+      (⊎_elim (h.modules b m j) (λ (new : (b ≡ k) × (thing.Module j ≡ e.thing)). subst (Allowed (length bs) ps vs ls k) (sym new.1) allowed) (look_more bs k n e b m (thing.Module j) is));
   blocks = λ i q is. subst (λ (c : ℕ). IsBlock c ps i q) (sym many) (h.blocks i q is);
   apart = h.apart;
   few = h.few;
+  each = h.each;
 }
   where
     many : length (bound_at bs k n e) ≡ length bs
@@ -299,24 +388,44 @@ module_later c d ps b le h = record { low = omega (arith, le, h.low); below = h.
 block_later : (c d : ℕ) (ps qs : List RProc) (n : ℕ) (q : RProc) → c ≤ d → Longer ps qs → IsBlock c ps n q → IsBlock d qs n q
 block_later c d ps qs n q le longer h = record { high = h.high; low = omega (arith, le, h.low); few = h.few; path = path_stays ps qs longer q.outer q.block (n ∷ q.around) h.path }
 
-pub homed_begun : (bs : List Names) (ps : List RProc) → Homed bs ps → Homed (bs ++ [] ∷ []) ps
-homed_begun bs ps h =
+pub homed_begun : (bs : List Names) (ps : List RProc) (vs : List RVar) (ls : List (List RVar)) → Homed bs ps vs ls → Homed (bs ++ [] ∷ []) ps vs ls
+homed_begun bs ps vs ls h =
     let more : length bs ≤ length (bs ++ [] ∷ []) = omega (arith, length_push bs []) in
     record {
       two = omega (arith, more, h.two);
       names = λ b m r is. h.names b m r (look_begun bs b m (thing.Procedure r) is);
+      variables = λ b m v is. h.variables b m v (look_begun bs b m (thing.Variable v) is);
       modules = λ b m j is. module_later (length bs) (length (bs ++ [] ∷ [])) ps j more (h.modules b m j (look_begun bs b m (thing.Module j) is));
       blocks = λ i q is. block_later (length bs) (length (bs ++ [] ∷ [])) ps ps i q more (λ n q is. is) (h.blocks i q is);
       apart = h.apart;
       few = h.few;
+      each = h.each;
     }
+
+-- variables more
+pub homed_more : (bs : List Names) (ps : List RProc) (vs ws : List RVar) (ls ms : List (List RVar)) → Homed bs ps vs ls → Longer vs ws → AllLonger ls ms → length ms ≡ length ls → Homed bs ps ws ms
+homed_more bs ps vs ws ls ms h more locals many = record {
+  two = h.two;
+  names = h.names;
+  variables = λ b m v is. own_stays ps ps (λ n q is. is) vs ws ls ms more locals b v (h.variables b m v is);
+  modules = h.modules;
+  blocks = h.blocks;
+  apart = h.apart;
+  few = h.few;
+  each = many ∙ h.each;
+}
 
 -- ---- a procedure more, whose block is the next
 pub last_there : {A : Type 0} (xs : List A) (x : A) → slice_get (xs ++ x ∷ []) (length xs) ≡ Some x
 last_there [] x = refl
 last_there (y ∷ xs) x = last_there xs x
 
-module _ (bs : List Names) (ps : List RProc) (outer : List ℕ) (inner : ℕ) (at : Option ℕ) (h : Homed bs ps) (stands : Stands outer inner ps at) (room : length ps < 250) (name : List ℕ) (sort : ℕ) where
+none_more : (ls : List (List RVar)) → AllLonger ls (ls ++ [] ∷ [])
+none_more [] p n v is = absurd (none-some v is)
+none_more (vs ∷ ls) zero n v is = is
+none_more (vs ∷ ls) (suc p) n v is = none_more ls p n v is
+
+module _ (bs : List Names) (ps : List RProc) (vs : List RVar) (ls : List (List RVar)) (outer : List ℕ) (inner : ℕ) (at : Option ℕ) (h : Homed bs ps vs ls) (stands : Stands outer inner ps at) (room : length ps < 250) (name : List ℕ) (sort : ℕ) where
   abbrev pub own : RProc
   own = record { name = name; block = length bs; outer = outer ++ inner ∷ []; around = chain_by ps at; sort = sort }
 
@@ -349,13 +458,17 @@ module _ (bs : List Names) (ps : List RProc) (outer : List ℕ) (inner : ℕ) (a
     low = (room, stands.path.low);
   }
 
-  pub homed_procedure : (n : List ℕ) (e : Entry) → e.thing ≡ thing.Procedure routine → Homed (bound_at (bs ++ [] ∷ []) inner n e) more
+  pub homed_procedure : (n : List ℕ) (e : Entry) → e.thing ≡ thing.Procedure routine → Homed (bound_at (bs ++ [] ∷ []) inner n e) more vs (ls ++ [] ∷ [])
   homed_procedure n e is_routine = record {
     two = omega (arith, count, h.two);
     names = λ b m r is. ⊎_elim
         (λ (before : look_in (block_at (bs ++ [] ∷ []) b) m ≡ Some (thing.Procedure r)). declared_stays ps more longer b r (h.names b m r (look_begun bs b m (thing.Procedure r) before)))
         (λ (new : (b ≡ inner) × (thing.Procedure r ≡ e.thing)). subst (λ (c : ℕ). IsDeclared more c r) (sym new.0) (subst (IsDeclared more inner) (sym (same_routine r (new.1 ∙ is_routine))) its_declared))
         (look_more (bs ++ [] ∷ []) inner n e b m (thing.Procedure r) is);
+    variables = λ b m v is. ⊎_elim
+        (λ (before : look_in (block_at (bs ++ [] ∷ []) b) m ≡ Some (thing.Variable v)). own_stays ps more longer vs vs ls (ls ++ [] ∷ []) (λ n x is. is) (none_more ls) b v (h.variables b m v (look_begun bs b m (thing.Variable v) before)))
+        (λ (new : (b ≡ inner) × (thing.Variable v ≡ e.thing)). absurd (let clash : thing.Variable v ≡ thing.Procedure routine = new.1 ∙ is_routine in cc))
+        (look_more (bs ++ [] ∷ []) inner n e b m (thing.Variable v) is);
     modules = λ b m j is. ⊎_elim
         (λ (before : look_in (block_at (bs ++ [] ∷ []) b) m ≡ Some (thing.Module j)). module_more j (h.modules b m j (look_begun bs b m (thing.Module j) before)))
         (λ (new : (b ≡ inner) × (thing.Module j ≡ e.thing)). absurd (let clash : thing.Module j ≡ thing.Procedure routine = new.1 ∙ is_routine in cc))
@@ -364,6 +477,7 @@ module _ (bs : List Names) (ps : List RProc) (outer : List ℕ) (inner : ℕ) (a
         (λ (new : (i ≡ length ps) × (own ≡ q)). subst (λ (k : ℕ). IsBlock (length all) more k q) (sym new.0) (subst (IsBlock (length all) more (length ps)) new.1 its_block)) (at_end ps own q i is);
     apart = λ i j q p there also same. by i j q p same (at_end ps own q i there) (at_end ps own p j also);
     few = omega (arith, longer_by, room);
+    each = omega (arith, longer_by, length_push ls [], h.each);
   }
     where
       all : List Names
@@ -391,8 +505,8 @@ module _ (bs : List Names) (ps : List RProc) (outer : List ℕ) (inner : ℕ) (a
       by i j q p same (inr x) (inr y) = x.0 ∙ sym y.0
 
 -- ---- inside of a procedure
-pub stands_inside : (bs : List Names) (ps : List RProc) → Homed bs ps → (n : ℕ) (q : RProc) → slice_get ps n ≡ Some q → Stands q.outer q.block ps (Some n)
-stands_inside bs ps h n q there =
+pub stands_inside : (bs : List Names) (ps : List RProc) (vs : List RVar) (ls : List (List RVar)) → Homed bs ps vs ls → (n : ℕ) (q : RProc) → slice_get ps n ≡ Some q → Stands q.outer q.block ps (Some n)
+stands_inside bs ps vs ls h n q there =
     let same : n ∷ q.around ≡ n ∷ around_of (slice_get ps n) = ap (λ (o : Option RProc). n ∷ around_of o) (sym there) in
     record {
       path = subst (IsPath ps q.outer q.block) same (h.blocks n q there).path;

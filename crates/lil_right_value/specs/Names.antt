@@ -10,7 +10,7 @@ use Rattle.lil_shapes.specs.{Bases.field_at, ListLaws.AllFine, Pointers.lies_at}
 use Rattle.lil_forms.specs.Scopes.{fine_more}
 use Rattle.lil_kinds.specs.{Forms.field, declared.forms.FieldAt.FieldAt}
 use Rattle.lil_check_value.specs.{declared.names.Looked.{Looked, TheVariants.{Nothing, Field, Thing as Named}}, Looks.{nearer, in_withs, nearest, looked_as, or_declared, look, type_node, module_node, member_type, type_by, type_named}}
-use Rattle.lil_right_type.specs.{Right.{Right, IsThere, after_right, is_so}, Found.{ThingTold, EnvTold}, Homes.{IsModule, Seen, found_procedure, found_module, member_procedure}, Parts.field_is}
+use Rattle.lil_right_type.specs.{Right.{Right, IsThere, after_right, is_so}, Found.{ThingTold, EnvTold}, Homes.{IsModule, Seen, found_procedure, found_variable, found_module, member_procedure, member_variable}, Parts.field_is}
 
 -- ---- what is true of all things that names stand for
 module _ (P : Thing → Type 0) where
@@ -79,7 +79,7 @@ Lies t o = IsThere (λ n. lies_at t n ≡ true) o
 
 module _ (e : Env) where
   abbrev pub Told : Thing → Type 0
-  Told x = ThingTold e.types e.variables e.texts x
+  Told x = ThingTold e.types e.texts x
 
   -- and what it is to the procedure at hand
   abbrev pub SeenTold : Thing → Type 0
@@ -95,8 +95,9 @@ module _ (e : Env) where
       where
         by : (o : Option Thing) → find e.scopes n ≡ o → IfSome o Told → IfSome o SeenTold
         by None is h = tt
-        by (Some (thing.Procedure r)) is h = (h, found_procedure e.scopes.blocks e.procedures told.homed e.scopes refl e.procedure told.stands n r is)
-        by (Some (thing.Module b)) is h = (h, found_module e.scopes.blocks e.procedures told.homed e.scopes refl e.procedure told.stands n b is)
+        by (Some (thing.Procedure r)) is h = (h, found_procedure e.scopes.blocks e.procedures e.variables e.locals told.homed e.scopes refl e.procedure told.stands n r is)
+        by (Some (thing.Variable v)) is h = (h, found_variable e.scopes.blocks e.procedures e.variables e.locals told.homed e.scopes refl e.procedure told.stands n v is)
+        by (Some (thing.Module b)) is h = (h, found_module e.scopes.blocks e.procedures e.variables e.locals told.homed e.scopes refl e.procedure told.stands n b is)
         by (Some _) is h = (h, tt)
 
     pub member_seen : (k : ℕ) → IsModule (length e.scopes.blocks) e.procedures k → (n : List ℕ) → IfSome (member e.scopes k n) SeenTold
@@ -104,7 +105,8 @@ module _ (e : Env) where
       where
         by : (o : Option Thing) → member e.scopes k n ≡ o → IfSome o Told → IfSome o SeenTold
         by None is h = tt
-        by (Some (thing.Procedure r)) is h = (h, member_procedure e.scopes.blocks e.procedures told.homed e.scopes refl e.procedure told.stands k n r m is)
+        by (Some (thing.Procedure r)) is h = (h, member_procedure e.scopes.blocks e.procedures e.variables e.locals told.homed e.scopes refl e.procedure told.stands k n r m is)
+        by (Some (thing.Variable v)) is h = (h, member_variable e.scopes.blocks e.procedures e.variables e.locals told.homed e.scopes refl e.procedure told.stands k n v m is)
         by (Some (thing.Module b)) is h = (h, told.homed.modules k n b is)
         by (Some _) is h = (h, tt)
 

@@ -14,7 +14,7 @@ use Rattle.lil_kinds.specs.{Forms.{span_of, set_base, has_nil}, Kinds.{sort_of, 
 use Rattle.lil_kinds.specs.{Operators.{constant, gives_where, one_sort, one_value, one_by, one, either_sort, common, are_wholes, are_truths, are_ordinals, are_references, are_sets_by, are_sets, are_comparable, is_of, is_element_by, is_element, number_or_set, two_values, two_by, is_text, two, operand_type}, declared.found.Applied.Applied}
 use Rattle.lil_kinds.specs.declared.found.{Applied.TheVariants.{Refused, Outside, Gives}, Found.Found}
 use Rattle.lil_resolved.specs.Kinds as kinds
-use Rattle.lil_resolved.specs.{Resolved.{Expression, kind_of}, Sizes.depth, Views.{base_view, expression_of, two_of, one_is, chain_is}, declared.resolved.{RBase.RBase, RExpr.RExpr}}
+use Rattle.lil_resolved.specs.{Resolved.{Expression, kind_of}, Sizes.depth, Views.{base_view, expression_of, two_of, one_is, chain_is}, declared.resolved.{RBase.RBase, RExpr.RExpr, RNamed.RNamed}}
 use Rattle.lil_resolved.specs.Sound as sound
 use Rattle.lil_resolved.specs.declared.resolved.RBase.TheVariants as b
 use Rattle.lil_resolved.specs.declared.resolved.RExpr.TheVariants as e
@@ -424,7 +424,7 @@ module _ (t : Table) (told : IsTold t) where
       texts true = tt
       texts false = by (constant t a) refl (constant t c) refl
 
-module _ {t : Table} {vs : List RVar} {around : List ℕ} (P : Property t vs around) (told : IsTold t) where
+module _ {t : Table} {vs : RNamed → Option RVar} {around : List ℕ} (P : Property t vs around) (told : IsTold t) where
   -- ---- a sign, or NOT
   one_yields : (o : OneOp) (g : RBase) (d : ℕ) (x : Option RExpr) → sound.takes_one o (base_view g) ≡ true → IsThere (Yields P g d) x → IsThere (Yields P g d) (one_of o x)
   one_yields o g d None h y = y

@@ -1,6 +1,6 @@
 -- What designators reach is told, and so is what is used of it.
 use Rattle.std.proofs.Common.{◌≡◌, ℕ, ◌+◌, ◌≤◌, Bool, true, false, not, ◌&&◌, List, [], length, slice_get, Option, Some, None, IfSome, if◌then◌else◌, refl, sym, ap, subst, ◌∙◌, arith, true≢false}
-use Rattle.std.specs.Prelude.{◌==◌, max, is_none}
+use Rattle.std.specs.Prelude.{max, is_none}
 use Rattle.lil_base.specs.declared.fault.{Place.Place, FaultKind.{FaultKind, TheVariants.{NotRecord, NotPointer}}}
 use Rattle.lil_text.specs.declared.tree.Ident.{Ident}
 use Rattle.lil_types.specs.Types.{Table}
@@ -11,16 +11,16 @@ use Rattle.lil_scope.specs.declared.thing.Thing.TheVariants as t
 use Rattle.lil_kinds.specs.{Forms.{array_parts, field, is_record, target}, Kinds.{assignable, misses}, declared.{forms.FieldAt.FieldAt, found.{Found.Found, Located.Located, Standing.Standing}}}
 use Rattle.lil_kinds.specs.declared.forms.ArrayParts as checked
 use Rattle.lil_kinds.specs.declared.found.Standing.TheVariants as standing
-use Rattle.lil_resolved.specs.{Sizes.{place_depth, depth}, Views.{expression_of, place_of, root_view, field_is as field_view, index_is, follow_is}, declared.resolved.{RExpr.RExpr, RKind.RKind, RPlace.RPlace, RRoot.RRoot}}
+use Rattle.lil_resolved.specs.{Sizes.{place_depth, depth}, Views.{expression_of, place_of, root_view, field_is as field_view, index_is, follow_is}, declared.resolved.{RExpr.RExpr, RKind.RKind, RNamed.RNamed, RPlace.RPlace, RRoot.RRoot}}
 use Rattle.lil_resolved.specs.declared.resolved.RRoot.TheVariants as root
 use Rattle.lil_resolved.specs.declared.resolved.RSelector.TheVariants as part
 use Rattle.lil_shapes.specs.{Bases.{kind_at, array_at, field_at}, Pointers.{lies_at, target_at, target_with, target_by}}
-use Rattle.lil_forms.specs.{Parts.{placed_is, further_is}, Places.{at_root, further, variable_at, held_at, element_as, element_by}, Properties.Property, Values.typed}
+use Rattle.lil_forms.specs.{Parts.{placed_is, further_is}, Places.{at_root, further, held_at, element_as, element_by}, Properties.Property, Values.typed, Variables.seen}
 use Rattle.lil_forms.specs.Places as places
 use Rattle.lil_call.specs.declared.call.Argument.TheVariants as argument
 use Rattle.lil_operators.specs.Operations.{raised}
 use Rattle.lil_check_value.specs.{declared.{designators.{Named.Named, Part.Part, Reached.Reached}, names.Looked.{Looked, TheVariants.{Nothing, Field, Thing as Declared}}}, Looks.{look, looked_as, is_hidden_thing}}
-use Rattle.lil_check_value.specs.Designators.{variable_place, kind_by, whole_part, thing_reached, held_field, name_node, root_means, is_misplaced, refused_rows, record_kind, field_of, field_found, field_value, part_field, module_block, other_field_by, other_field, field_node, parts_of, with_index, index_fits, element_found, element_value, index_rows, part_index, other_index, index_node, opaque_kind, target_of, target_found, target_value, part_follow, is_waiting, reached_follow, other_follow, follow_node, located_form, part_found, no_value, is_procedure, text_form, thing_found, named_value, value_node, variable_node, part_callee, thing_callee, callee_node, type_in, no_type_in, part_typed, typed_node}
+use Rattle.lil_check_value.specs.Designators.{place_named, variable_place, kind_by, whole_part, thing_reached, held_field, name_node, root_means, is_misplaced, refused_rows, record_kind, field_of, field_found, field_value, part_field, module_block, other_field_by, other_field, field_node, parts_of, with_index, index_fits, element_found, element_value, index_rows, part_index, other_index, index_node, opaque_kind, target_of, target_found, target_value, part_follow, is_waiting, reached_follow, other_follow, follow_node, located_form, part_found, no_value, is_procedure, text_form, thing_found, named_value, value_node, variable_node, part_callee, thing_callee, callee_node, type_in, no_type_in, part_typed, typed_node}
 use Rattle.lil_check_value.specs.declared.designators.Reached.TheVariants as reached
 use Rattle.lil_right_call.specs.Told.{ArgumentTold, CalleeTold}
 use Rattle.lil_right_type.specs.{Found.{KindTold, LiesAt, GoesWith, bare, IsLocated, HasPlace, IsFound, ThingTold, EnvTold}, Homes.{IsModule, IsSeen, Seen}, Parts.{IsArray, IsPointer, array_is, field_is, target_is, never_opaque}, Right.{Clear, Right, IsThere, IsThereOr, there_or, is_so}, Typed.{Suits, kept_if, assignable_stores, stores_suits}, Types.{IsOrdinal, known_ordinal}}
@@ -44,7 +44,7 @@ index_depth : (p : RPlace) (j : RKind) (x : RExpr) → place_depth (place_of (fu
 index_depth p j x = ap place_depth (further_is p (part.Index j x) ∙ index_is j x (place_of p))
 
 -- the place of a variable, or of a part of one, of a type
-pub record PartTold {t : Table} {vs : List RVar} {around : List ℕ} (P : Property t vs around) (a : Part) : Type 0 where
+pub record PartTold {t : Table} {vs : RNamed → Option RVar} {around : List ℕ} (P : Property t vs around) (a : Part) : Type 0 where
   pub sort : ℕ
   pub is : a.kind ≡ k.Of sort
   pub lies : lies_at t sort ≡ true
@@ -53,7 +53,7 @@ pub record PartTold {t : Table} {vs : List RVar} {around : List ℕ} (P : Proper
   pub few : a.depth ≤ 12
 
 -- what is used of it
-part_told : {t : Table} {vs : List RVar} {around : List ℕ} (P : Property t vs around) (a : Part) → PartTold P a → IsFound P (part_found a) × IsLocated (located_form a.place)
+part_told : {t : Table} {vs : RNamed → Option RVar} {around : List ℕ} (P : Property t vs around) (a : Part) → PartTold P a → IsFound P (part_found a) × IsLocated (located_form a.place)
 part_told {t} P a h = (
   record {
     kind = subst (KindTold t) (sym h.is) h.lies;
@@ -85,9 +85,9 @@ is_other t.Hidden = false
 is_other t.Broken = false
 is_other _ = true
 
-module _ (e : Env) (P : Property e.types e.variables e.withs) (told : EnvTold e) where
+module _ (e : Env) (P : Property e.types (seen e) e.withs) (told : EnvTold e) where
   abbrev pub NamedTold : Thing → Type 0
-  NamedTold x = ThingTold e.types e.variables e.texts x × (built x ≡ true) × (is_other x ≡ true) × Seen e.procedures (chain e) e x
+  NamedTold x = ThingTold e.types e.texts x × (built x ≡ true) × (is_other x ≡ true) × Seen e.procedures (chain e) e x
 
   -- calls of procedures that are seen here
   abbrev pub Called : ℕ → ℕ → Type 0
@@ -101,18 +101,19 @@ module _ (e : Env) (P : Property e.types e.variables e.withs) (told : EnvTold e)
   whole_told : (p q : Place) (o : Option Located) (s : ℕ) → lies_at e.types s ≡ true → IsThere (LiesAt P s 1) o → PartTold P (whole_part p q o (k.Of s))
   whole_told p q o s lies h = record { sort = s; is = refl; lies = lies; place = h; some = omega arith; few = omega arith }
 
-  variable_told : (p q : Place) (v : Variable) → ThingTold e.types e.variables e.texts (t.Variable v) → IsThere ReachedTold (thing_reached e p q (t.Variable v))
+  variable_told : (p q : Place) (v : Variable) → SeenTold e (t.Variable v) → IsThere ReachedTold (thing_reached e p q (t.Variable v))
   variable_told p q v h =
-      subst (λ mode. PartTold P (whole_part p q (variable_place e v) (kind_by mode v.sort))) (sym h.1)
-      (whole_told p q (variable_place e v) v.sort h.3
-      (subst (λ level. IsThere (LiesAt P v.sort 1) (if level == 1 then variable_at e.variables v.number else None)) (sym h.0)
-      (subst (λ o. IsThere (LiesAt P v.sort 1) (places.variable_by v.number o)) (sym h.2.1) record { sort = h.2.2; deep = at_most (root_depth (root.Variable v.number) h.2.0.sort); good = P.variable v.number h.2.0 h.2.1 })))
+      let x = h.1 in
+      subst (λ mode. PartTold P (whole_part p q (variable_place e v) (kind_by mode v.sort))) (sym h.0.0)
+      (whole_told p q (variable_place e v) v.sort h.0.1
+      (subst (λ o. IsThere (LiesAt P v.sort 1) (place_named e o)) (sym x.is)
+      (subst (λ o. IsThere (LiesAt P v.sort 1) (places.variable_at x.named o)) (sym x.there) record { sort = x.sort_is; deep = at_most (root_depth (root.Variable x.named) x.its.sort); good = P.variable x.named x.its x.there })))
     where
       at_most : {n : ℕ} → n ≡ 1 → n ≤ 1 + 1
       at_most is = omega (arith, is)
 
   named_told : (p q : Place) (x : Thing) → SeenTold e x → built x ≡ true → is_hidden_thing x ≡ false → IsThere ReachedTold (thing_reached e p q x)
-  named_told p q (t.Variable v) h is seen = variable_told p q v h.0
+  named_told p q (t.Variable v) h is seen = variable_told p q v h
   named_told p q t.Hidden h is seen = absurd (true≢false seen)
   named_told p q t.Broken h is seen = absurd h.0
   named_told p q (t.Constant c) h is seen = (h.0, is, refl, h.1)

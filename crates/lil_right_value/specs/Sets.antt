@@ -11,7 +11,7 @@ use Rattle.lil_scope.specs.declared.env.Env.{Env}
 use Rattle.lil_scope.specs.declared.thing.Kind.TheVariants as k
 use Rattle.lil_kinds.specs.{Forms.{set_base, shape, of_form, set_of as set_type_of}, Kinds.{number, suits, compatible}, declared.found.Found.Found}
 use Rattle.lil_kinds.specs.declared.found.Form.TheVariants as form
-use Rattle.lil_resolved.specs.{Chains.set_kind, Kinds.{is_element, takes_value}, Resolved.Expression, Sizes.depth, Views.{kind_view, expression_of, member_of, with_members, empty_set, set_is, single_is, span_is}, declared.resolved.{RExpr.RExpr, RMember.RMember}}
+use Rattle.lil_resolved.specs.{Chains.set_kind, Kinds.{is_element, takes_value}, Resolved.Expression, Sizes.depth, Views.{kind_view, expression_of, member_of, with_members, empty_set, set_is, single_is, span_is}, declared.resolved.{RExpr.RExpr, RMember.RMember, RNamed.RNamed}}
 use Rattle.lil_resolved.specs.Kinds as kinds
 use Rattle.lil_resolved.specs.declared.resolved.RBase.TheVariants as b
 use Rattle.lil_resolved.specs.declared.resolved.RExpr.TheVariants as e
@@ -182,7 +182,7 @@ module _ (t : Table) where
   all_words s y [] h = h
   all_words s y (x ∷ xs) h = all_words s (bounds_node t s y x).0 xs (word_node s y x h)
 
-module _ {t : Table} {vs : List RVar} {around : List ℕ} (P : Property t vs around) where
+module _ {t : Table} {vs : RNamed → Option RVar} {around : List ℕ} (P : Property t vs around) where
   -- members that match their bounds, of which a set has the property
   abbrev pub AreMembers : ℕ → List Bounds → List RMember → Type 0
   AreMembers s xs ys = Matches xs ys × ((x : Members) → members_at t s ≡ Some x → P.value (e.Set x.kind ys))

@@ -12,7 +12,7 @@ use Rattle.lil_resolved.specs.declared.resolved.RBase.TheVariants as b
 use Rattle.lil_scope.specs.{Names.{is_wait_for, waits_for, chain}, declared.env.{Env.Env, Wait.Wait}}
 use Rattle.lil_kinds.specs.declared.found.Found.{Found}
 use Rattle.lil_shapes.specs.{Bases.base_at, ListLaws.AllFine}
-use Rattle.lil_forms.specs.{Properties.Property, Scopes.{Fits, both_left}, Soundness.soundness, StatementSound.StatementSound}
+use Rattle.lil_forms.specs.{Properties.Property, Scopes.{Fits, both_left}, Soundness.soundness, StatementSound.StatementSound, Variables.seen}
 use Rattle.lil_call.specs.{declared.call.{Argument.Argument, Callee.Callee}, Passing.all_have_values, Calls.{value_of, call_node}}
 use Rattle.lil_call.specs.declared.call.Argument.TheVariants as argument
 use Rattle.lil_operators.specs.{declared.operations.Chained.Chained, Operations.{Elements, one_node, begun, two_node, chain_found, joined_one, joined_range, set_node}}
@@ -43,7 +43,7 @@ first_byte (c ∷ cs) h = at c (both_left (is_character c) (is_text cs) h)
     at c h = grind (arith, nat_tests, h)
 
 -- ---- expressions, where W is so if a pointer waits for its target
-module _ (e : Env) (P : Property e.types e.variables e.withs) (told : EnvTold e) (W : Type 0) (waits : (n : ℕ) → waits_for e n ≡ true → W) where
+module _ (e : Env) (P : Property e.types (seen e) e.withs) (told : EnvTold e) (W : Type 0) (waits : (n : ℕ) → waits_for e n ≡ true → W) where
   abbrev FoundOr : Option Found → Type 0
   FoundOr = IsThereOr W (IsFound P)
 
@@ -147,7 +147,7 @@ there_asked : {A : Type 0} (P : A → Type 0) (o : Option A) (c : Bool) → (is_
 there_asked P None c none so h = absurd (true≢false (sym so ∙ none))
 there_asked P (Some a) c none so h = h
 
-pub asked_right : (e : Env) (P : Property e.types e.variables e.withs) → EnvTold e → (x : Expr) → Right (IsThere (IsFound P)) (asked_means e x)
+pub asked_right : (e : Env) (P : Property e.types (seen e) e.withs) → EnvTold e → (x : Expr) → Right (IsThere (IsFound P)) (asked_means e x)
 unfolding as_constant
 asked_right e P told x clear =
     let own : Clear (means e x).1 = clear_left (means e x).1 _ clear in
@@ -157,13 +157,13 @@ asked_right e P told x clear =
 none_waits : (ws : List Wait) → ws ≡ [] → (n : ℕ) → list_any (is_wait_for n) ws ≡ true → ⊥
 none_waits ws settled n h = true≢false (sym h ∙ ap (list_any (is_wait_for n)) settled)
 
-module _ (e : Env) (P : Property e.types e.variables e.withs) (told : EnvTold e) (settled : e.waits ≡ []) where
+module _ (e : Env) (P : Property e.types (seen e) e.withs) (told : EnvTold e) (settled : e.waits ≡ []) where
   pub means_right : (x : Expr) → Right (IsThere (IsFound P)) (means e x)
   means_right = means_or e P told ⊥ (none_waits e.waits settled)
 
   pub variable_means_right : (d : Designator) → Right (IsThere (λ a. IsFound P a × IsLocated a.form)) (variable_means e d)
   variable_means_right = variable_true Clearly lifts e (truths e P told ⊥ (none_waits e.waits settled)) (nodes e P told ⊥ (none_waits e.waits settled)) (IsThere (λ a. IsFound P a × IsLocated a.form)) (variable_right e P told)
 
-pub call_means_right : (e : Env) {ts : Scope} (fits : Fits e.types e.variables e.withs ts) → EnvTold e → e.waits ≡ [] → Calls (IsSeen e.procedures (chain e)) ts → (looping : Bool) (d : Designator) (xs : List Expr) → Right (IsThere (StatementSound ts looping)) (call_means e d xs)
+pub call_means_right : (e : Env) {ts : Scope} (fits : Fits e.types (seen e) e.withs ts) → EnvTold e → e.waits ≡ [] → Calls (IsSeen e.procedures (chain e)) ts → (looping : Bool) (d : Designator) (xs : List Expr) → Right (IsThere (StatementSound ts looping)) (call_means e d xs)
 call_means_right e {ts} fits told settled calls looping =
     call_true Clearly lifts e (truths e (soundness fits) told ⊥ (none_waits e.waits settled)) (nodes e (soundness fits) told ⊥ (none_waits e.waits settled)) (IsThere (StatementSound ts looping)) (statement_node_right fits told.types looping (IsSeen e.procedures (chain e)) calls)

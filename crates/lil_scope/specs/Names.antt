@@ -5,7 +5,7 @@ use Rattle.std.specs.{Cmp.Lexicographic.pointwise, List.list_any}
 use Rattle.lil_base.specs.declared.fault.{Place.Place, FaultKind.TheVariants.Twice}
 use Rattle.lil_text.specs.declared.tree.Ident.{Ident}
 use Rattle.lil_report.specs.Told.{Row, row}
-use Rattle.lil_declared.specs.declared.declared.RProc.{RProc}
+use Rattle.lil_declared.specs.declared.declared.{RProc.RProc, RVar.RVar}
 use Rattle.lil_scope.specs.declared.{thing.{Entry.Entry, Thing.Thing}, entering.Around.Around, env.{Env.Env, Wait.Wait}, scope.Scopes.Scopes}
 
 abbrev pub same : List ℕ → List ℕ → Bool
@@ -116,6 +116,10 @@ waits_for e p = list_any (is_wait_for p) e.waits
 abbrev pub with_block : Env → Env
 with_block e = with_blocks e (e.scopes.blocks ++ [] ∷ [])
 
+-- a block and variables for the next procedure, without any yet
+abbrev pub begun : Env → Env
+begun e = record (with_block e) { locals = e.locals ++ [] ∷ [] }
+
 -- how many blocks are around the one at hand: 0 for that of the standard names, 1 for the module's
 abbrev pub level : Env → ℕ
 level e = length e.scopes.outer
@@ -158,3 +162,27 @@ chain e = chain_by e.procedures e.procedure
 -- how many procedures out of the one at hand another one is declared, by its level: 0 for those of the module
 abbrev pub levels_out : Env → ℕ → ℕ
 levels_out e at = if nat_lt 1 at then level e + 1 - at else 0
+
+-- ---- variables of procedures, by the procedures' numbers: none where there is no such procedure
+abbrev pub locals_by : Option (List RVar) → List RVar
+locals_by None = []
+locals_by (Some vs) = vs
+
+abbrev pub locals_in : List (List RVar) → ℕ → List RVar
+locals_in ls p = locals_by (slice_get ls p)
+
+abbrev pub locals_at : Env → ℕ → List RVar
+locals_at e p = locals_in e.locals p
+
+-- one more of a procedure, where it is there
+abbrev pub with_local : List (List RVar) → ℕ → RVar → List (List RVar)
+with_local ls p v = if nat_lt p (length ls) then slice_set ls p (locals_in ls p ++ v ∷ []) else ls
+
+-- those of an owner: a procedure, or the module
+abbrev pub variables_of : Env → Option ℕ → List RVar
+variables_of e None = e.variables
+variables_of e (Some p) = locals_at e p
+
+-- how many procedures out of the one at hand a variable of a procedure is declared, by its level
+abbrev pub variable_levels : Env → ℕ → ℕ
+variable_levels e at = level e - at

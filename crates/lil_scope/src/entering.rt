@@ -1,4 +1,4 @@
-ghost use Rattle.std.specs.Prelude.{◌≡◌, IfOk};
+ghost use Rattle.std.specs.Prelude.{◌≡◌, slice_get, IfOk};
 ghost use Rattle.lil_scope.specs.Names as spec;
 
 use crate::coming::Coming;
@@ -48,6 +48,27 @@ pub fn levels_out(env: &Env, level: usize) -> usize
     } else {
         0
     }
+}
+
+/// The procedure so many levels out, of which the one at hand is 0.
+pub fn procedure_out(env: &Env, levels: usize) -> Option<usize>
+    ensures { result ≡ slice_get (spec.chain env.now) levels }
+{
+    let number = env.procedure?;
+    if levels == 0 {
+        return Some(number);
+    }
+    match env.procedures.get(number) {
+        Some(of) => of.around.get(levels - 1).copied(),
+        None => None,
+    }
+}
+
+/// How many procedures out of the one at hand a variable of a procedure is declared, by its level.
+pub fn variable_levels(env: &Env, level: usize) -> usize
+    ensures { result ≡ spec.variable_levels env.now level }
+{
+    env.scopes.outer.as_slice().len().saturating_sub(level)
 }
 
 /// Enters the block of a procedure, by its number.

@@ -2,6 +2,7 @@ ghost use Rattle.std.specs.Prelude.{◌≡◌, ◌++◌, ◌∷◌, [], take, dr
 ghost use Rattle.std.specs.Option.{option_copied};
 
 use crate::coming::Coming;
+use crate::locals::Locals;
 use crate::scope::Scopes;
 use lil_base::{Items, Memory, Name, Place, Shared, Text};
 use lil_declared::{RProc, RVar};
@@ -121,9 +122,9 @@ impl Withs {
     }
 }
 
-/// All that is declared so far: the names, the types, the texts of constants, the variables and procedures of the module and of
-/// all its procedures, the pointers that wait for the end of the block at hand and of those around it, the names of the types that it declares, the records
-/// of the WITH around, and the procedure at hand, if it isn't the module's body.
+/// All that is declared so far: the names, the types, the texts of constants, the variables of the module, the procedures and
+/// the variables of each, the pointers that wait for the end of the block at hand and of those around it, the names of the
+/// types that it declares, the records of the WITH around, and the procedure at hand, if it isn't the module's body.
 #[derive(Drop)]
 pub struct Env {
     pub scopes: Scopes,
@@ -131,6 +132,7 @@ pub struct Env {
     pub texts: Items<Shared<Text>>,
     pub variables: Items<RVar>,
     pub procedures: Items<RProc>,
+    pub locals: Locals,
     pub waits: Waits,
     pub coming: Coming,
     pub withs: Withs,

@@ -5,14 +5,18 @@ mod built;
 mod coming;
 mod entering;
 mod env;
+mod locals;
 mod names;
 mod scope;
 mod thing;
 
 pub use built::is_built;
 pub use coming::Coming;
-pub use entering::{Around, chain, enter, leave, levels_out, visible};
+pub use entering::{
+    Around, chain, enter, leave, levels_out, procedure_out, variable_levels, visible,
+};
 pub use env::{Env, Wait, Waits, Withs};
+pub use locals::Locals;
 pub use names::{bind, bind_at, find_in, is_later, waits_for};
 pub use scope::{Block, Blocks, Scopes};
 pub use thing::{Chars, Entry, Kind, Routine, Thing, Variable};

@@ -23,8 +23,8 @@ pub enum Kind {
     Routine(TypeId),
 }
 
-/// A variable: its number among all variables of the module, the level of the block that declares it, 1 for that of
-/// the module, and its type, or that of its elements where it is an open array.
+/// A variable: its number among those of the module or of its procedure, the level of the block that declares it, 1 for that
+/// of the module, and its type, or that of its elements where it is an open array.
 #[derive(Clone, Copy)]
 pub struct Variable {
     pub number: usize,

@@ -1,4 +1,5 @@
-ghost use Rattle.std.specs.Prelude.{◌≡◌, ◌≢◌, ◌⊎◌, ◌<◌, ◌≤◌, [], ◌∷◌, true, length, map, IfOk, OnErr, Ok, Some, None};
+ghost use Rattle.std.specs.Prelude.{◌≡◌, ◌≢◌, ◌⊎◌, ◌<◌, ◌≤◌, [], ◌∷◌, true, length, map, List, IfOk, OnErr, Ok, Some, None};
+ghost use Rattle.lil_resolved.specs.declared.shapes.RShape.{RShape};
 ghost use Rattle.lil_resolved.specs.{Views.{module_of, procedure_of}, Sizes.{IsSmall, code_size, module_strings}, Kinds.all_words};
 ghost use Rattle.lil_meaning.specs.World.{World};
 ghost use Rattle.lil_mcode.specs.Table.{Module, State, mstep};
@@ -85,12 +86,12 @@ fn procedures(
     entries: &[u16],
 ) -> Result<Vec<(u16, Option<Name>)>, Memory>
     requires { length entries.now ≡ length of.now }
-    ensures { IfOk result (λ table. table.items ≡ (0, None) ∷ named_entries (map procedure_of of.now) entries.now) }
+    ensures { IfOk result (λ table. (shapes : List RShape) → table.items ≡ (0, None) ∷ named_entries (map (procedure_of shapes) of.now) entries.now) }
 {
     let mut table = Vec::new(alloc);
     table.push((0, None))?;
     for (number, procedure) in of.iter().enumerate() {
-        table.push((entries[number], Some(procedure.name.copy(alloc)?)))?;
+        table.push((entries[number], Some(procedure.heading.name.copy(alloc)?)))?;
     }
     Ok(table)
 }

@@ -1,5 +1,5 @@
 -- What shapes and variables that are made say, and that their words are counted.
-use Rattle.std.specs.Prelude.{◌≡◌, ℕ, ◌+◌, ◌≤◌, nat_le, List, [], map, Option, Some, None, if◌then◌else◌}
+use Rattle.std.specs.Prelude.{◌≡◌, ℕ, ◌+◌, ◌≤◌, min, nat_le, List, [], map, Option, Some, None, if◌then◌else◌}
 use Rattle.lil_declared.specs.declared.declared.RVar.{RVar}
 use Rattle.lil_resolved.specs.{Kinds.{Shape, words, is_there, all_words, offsets_from}, Views.{shapes_of, shape_with, shape_declared, name_of, offset_of, IsMeasuredShape, AreMeasured}}
 use Rattle.lil_shapes.specs.{declared.{laying.Laid.Laid, shapes.{Made.Made, Shaped.Shaped}}, Shaping.{all_some, lying}}
@@ -40,7 +40,14 @@ variable_name v = v.name
 abbrev pub shapes_laid : Shaped → Laid → List Shape
 shapes_laid s l = map (shape_declared s.shapes) l.variables
 
--- variables of a module lie one behind another
+-- variables lie one behind another from a word on, as far as words are counted: up to 65,535
+pub record IsLaidFrom (first : ℕ) (s : Shaped) (vs : List RVar) (l : Laid) : Type 0 where
+  pub shapes : all_some (map (lying (shapes_in s)) vs) ≡ Some (shapes_laid s l)
+  pub names : map name_of l.variables ≡ map variable_name vs
+  pub offsets : map offset_of l.variables ≡ map (min 65535) (offsets_from first (shapes_laid s l))
+  pub words : l.words ≡ min 65535 (all_words (shapes_laid s l))
+
+-- those of a module, all of whose words are counted
 pub record IsLaid (s : Shaped) (vs : List RVar) (l : Laid) : Type 0 where
   pub shapes : all_some (map (lying (shapes_in s)) vs) ≡ Some (shapes_laid s l)
   pub names : map name_of l.variables ≡ map variable_name vs

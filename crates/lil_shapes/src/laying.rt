@@ -1,8 +1,8 @@
-ghost use Rattle.std.specs.Prelude.{◌≡◌, IfOk, MatchOption, None, Some};
-ghost use Rattle.lil_shapes.specs.Measured.{shapes_in, IsShaped, IsLaid};
+ghost use Rattle.std.specs.Prelude.{◌≡◌, map, IfOk, MatchOption, None, Some};
+ghost use Rattle.lil_shapes.specs.Measured.{shapes_in, IsShaped, IsLaidFrom, IsLaid};
 ghost use Rattle.lil_shapes.specs.Shaping as spec;
 
-use crate::shapes::{Shaped, behind, size_at};
+use crate::shapes::{Shaped, size_at};
 use lil_base::{Items, Memory};
 use lil_declared::RVar;
 use lil_resolved::RDeclared;
@@ -15,11 +15,10 @@ pub struct Laid {
     pub words: u16,
 }
 
-/// The variables of a module, None where nothing lies in one, or all have more than 32,000 words. Memory where there is no
-/// room for them.
-pub fn lay(alloc: Global, types: &Shaped, of: &[RVar]) -> Result<Option<Laid>, Memory>
+/// Variables from a word on, as far as words are counted. None where nothing lies in one.
+fn lay_from(alloc: Global, types: &Shaped, of: &[RVar], first: u16) -> Result<Option<Laid>, Memory>
     requires { IsShaped types.now }
-    ensures { IfOk result (λ o. MatchOption o (spec.variables_by (Some (shapes_in types.now)) of.now ≡ None) (IsLaid types.now of.now)) }
+    ensures { IfOk result (λ o. MatchOption o (spec.all_some (map (spec.lying (shapes_in types.now)) of.now) ≡ None) (IsLaidFrom first types.now of.now)) }
 {
     let mut variables = Items::new(alloc);
     let mut words: u16 = 0;
@@ -27,16 +26,38 @@ pub fn lay(alloc: Global, types: &Shaped, of: &[RVar]) -> Result<Option<Laid>, M
         let Some(size) = size_at(types, one.sort) else {
             return Ok(None);
         };
-        let Some(next) = behind(words, size) else {
-            return Ok(None);
-        };
         let name = one.name.copy(alloc)?;
         variables.push(RDeclared {
             name,
-            offset: words,
+            offset: words.saturating_add(first),
             shape: one.sort as usize,
         })?;
-        words = next;
+        words = words.saturating_add(size);
     }
     Ok(Some(Laid { variables, words }))
+}
+
+/// The variables of a module, None where nothing lies in one, or all have more than 32,000 words. Memory where there is no
+/// room for them.
+pub fn lay(alloc: Global, types: &Shaped, of: &[RVar]) -> Result<Option<Laid>, Memory>
+    requires { IsShaped types.now }
+    ensures { IfOk result (λ o. MatchOption o (spec.variables_by (Some (shapes_in types.now)) of.now ≡ None) (IsLaid types.now of.now)) }
+{
+    let Some(laid) = lay_from(alloc, types, of, 0)? else {
+        return Ok(None);
+    };
+    if laid.words > 32_000 {
+        drop(laid);
+        return Ok(None);
+    }
+    Ok(Some(laid))
+}
+
+/// The variables of a procedure, behind the four words of its frame's mark. None where nothing lies in one. Memory where there
+/// is no room for them.
+pub fn lay_locals(alloc: Global, types: &Shaped, of: &[RVar]) -> Result<Option<Laid>, Memory>
+    requires { IsShaped types.now }
+    ensures { IfOk result (λ o. MatchOption o (spec.all_some (map (spec.lying (shapes_in types.now)) of.now) ≡ None) (IsLaidFrom 4 types.now of.now)) }
+{
+    lay_from(alloc, types, of, 4)
 }

@@ -13,7 +13,7 @@ mod shapes;
 pub use bases::{base_at, kind_at};
 pub use characters::characters_at;
 pub use composites::{ArrayParts, array_at, composite_at, element_sort, field_at};
-pub use laying::{Laid, lay};
+pub use laying::{Laid, lay, lay_locals};
 pub use members::{Members, members_at};
 pub use operators::{counted, counted_base};
 pub use pointers::{Target, all_targets, target_at, target_of, target_sort};

@@ -104,7 +104,7 @@ pub(crate) fn size_at(types: &Shaped, sort: TypeId) -> Option<u16>
 }
 
 /// Where what comes behind so many words begins, if at most 32,000 are taken.
-pub(crate) fn behind(words: u16, size: u16) -> Option<u16>
+fn behind(words: u16, size: u16) -> Option<u16>
     ensures { result ≡ measured.behind words size }
 {
     let end = u32::from(words) + u32::from(size);

@@ -6,7 +6,7 @@ use Rattle.lil_table.specs.Rows.{InstrsAt, Access, access_of, readied, held, hel
 use Rattle.lil_labels.specs.{Drafts.{Draft, Emits, Doing, DoingAll}, Emitting.{emits_then, emits_as}}
 use Rattle.lil_expr.specs.Generating.{Value}
 use Rattle.lil_stmt.specs.Generating.{Stored, Targeted, Stated}
-use Rattle.lil_stmt.proofs.Storing.{whole, stored}
+use Rattle.lil_stmt.proofs.Storing.{whole}
 
 -- the words that a place takes
 held_low : (a : Access) → held a ≤ 3

@@ -1,18 +1,17 @@
 -- The code of statements, form by form.
-use Rattle.std.proofs.Common.{◌≡◌, ℕ, zero, suc, ◌+◌, ◌*◌, ◌%◌, ◌<◌, ◌≤◌, Bool, true, List, [], ◌∷◌, ◌++◌, length, map, take, get_or, Option, Some, None, refl, sym, ap, ◌∙◌, subst, arith, append-nil, ℤ, Result, OnOk}
+use Rattle.std.proofs.Common.{◌≡◌, ℕ, zero, suc, ◌+◌, ◌*◌, ◌%◌, ◌<◌, ◌≤◌, min, Bool, true, List, [], ◌∷◌, ◌++◌, length, map, take, get_or, Option, Some, None, refl, sym, ap, ◌∙◌, subst, arith, append-nil, ℤ, Result, OnOk}
 use Rattle.std.specs.{Option.{is_some, option_map}, List.flat_map}
 use Rattle.std.proofs.lemmas.List.{take_more, take_all, length-take-le}
 use Rattle.lil_base.specs.Words.{word_of}
-use Rattle.lil_resolved.specs.{declared.resolved.{RExpr.RExpr, RStmt.RStmt, RArm.RArm, RLabel.RLabel}, Kinds.{Kind, compared_as, is_ordinal, OfTruth, base_of, covers, outside_turns, Shape, Scope, with_held, shape_at}, Resolved.{Label, Arms, kind_of, Designator, Expression, Statement, While, Repeat, Loop, For, Inside, Statements, Empty, Then, shape_of}}
+use Rattle.lil_resolved.specs.{declared.resolved.{RExpr.RExpr, RStmt.RStmt, RArm.RArm, RLabel.RLabel}, Kinds.{Kind, compared_as, is_ordinal, OfTruth, base_of, covers, outside_turns, Shape, Scope, with_held, shape_at}, Resolved.{Named, Label, Arms, kind_of, Designator, Expression, Statement, While, Repeat, Loop, For, Inside, Statements, Empty, Then, shape_of}}
 use Rattle.lil_resolved.specs.{Views.{expression_of, statement_of, statements_of, label_of, else_of, arms_of, case_is, arm_is, joined, guarded, guard_of, guards_of, shapes_of, guard_is}, Sizes.{arms_words, body_strings, arms_strings, statement_strings}, Sound.{IsSoundLabel, AreSoundLabels, AreSoundArms, IsSoundBody}, declared.resolved.RGuard.RGuard}
 use Rattle.lil_resolved.specs.declared.resolved.RStmt.TheVariants as s
-use Rattle.lil_asm.specs.declared.instr.Instr.{Instr, TheVariants.{Jmp, Cas, Trp, Liw, Llw, Slw, Sgw, Jpf, Fri, Frn}}
-use Rattle.lil_table.specs.{Rows.{IsAt, EntriesAt, ArmsAt, loop_place, Layout, holding, BodyAt, loop_sign, test_code}, LabelLaws.label_in}
-use Rattle.lil_labels.specs.{Drafts.{Draft, Final, EntryAt, Entering, Meaning, Adds, Emits, Nothing, Doing, Each, Marking, Makes, Ends, inside, outside, DoingAll}, Emitting.{with_ok, take_next, each_more, emits_then, emits_as, adds_as, emits_within, emits_here, emits_fresh, emits_mark, emits_tied, emits_inside}, Tables.{Tables, variable_by}}
-use Rattle.lil_expr.specs.{Generating.Value, Variables.known_row}
+use Rattle.lil_asm.specs.declared.instr.Instr.{Instr, TheVariants.{Jmp, Cas, Trp, Liw, Llw, Slw, Jpf, Fri, Frn}}
+use Rattle.lil_table.specs.{Rows.{framed, IsAt, Access, access_at, store_code, EntriesAt, ArmsAt, loop_place, Layout, holding, BodyAt, loop_sign, test_code}, LabelLaws.label_in}
+use Rattle.lil_labels.specs.{Drafts.{Draft, Final, EntryAt, Entering, Meaning, Adds, Emits, Nothing, Doing, Each, Marking, Makes, Ends, inside, outside, DoingAll}, Emitting.{with_ok, take_next, each_more, emits_then, emits_as, adds_as, emits_within, emits_here, emits_fresh, emits_mark, emits_tied, emits_inside}, Tables.{Tables, declared_at, variable_by}}
+use Rattle.lil_expr.specs.{Generating.Value, Variables.{known_row, known_access}}
 use Rattle.lil_stmt.specs.Generating.{Body, StatementPart, statement_part, GuardPart, guard_part, paired, ArmPart, ArmBody, arm_part, Trapping, ElsePart, HasWords, LabelEntry, ArmLabels, ChoiceOf, entries, Addressed, Stated, Aligning}
 use Rattle.lil_stmt.proofs.{Words.in_word, Counting.joined_words, Strings.{case_strings, body_parts, if_strings}, Storing.whole}
-use Rattle.std.specs.Prelude.{slice_get}
 
 -- ---- one behind another
 pub one_emitted : (n : ℕ) (exit : Option ℕ) (s : Statement) (ss : Statements) (a b : Draft) → ss ≡ Then s Empty → Adds (statement_strings s) a b (Stated n exit s) → Adds (body_strings ss) a b (Body n exit ss)
@@ -107,29 +106,32 @@ if_emitted n exit gs other end a b c d e new makes guards otherwise put =
     (emits_here a d e _ end (emits_fresh a b d _ new (emits_then b c d _ _ guards otherwise)) makes.apart put))
 
 -- ---- FOR
--- the store in a variable
-abbrev Storing : ℕ → Meaning
-Storing v x p q = IsAt x.code p (Sgw (variable_by (slice_get x.tables.variables v)).offset) q
+-- how code has a variable, and the store in it
+abbrev access_by : Tables → Named → Access
+access_by ts v = access_at v (variable_by (declared_at ts v)).offset
 
-store_emitted : (v offset : ℕ) (a b : Draft) → offset ≡ (variable_by (slice_get a.tables.variables v)).offset → Emits a b (Doing (λ w. Sgw offset)) → Emits a b (Storing v)
-store_emitted v offset a b is store =
+abbrev Storing : Named → Meaning
+Storing v x p q = IsAt x.code p (store_code (access_by x.tables v)) q
+
+store_emitted : (v : Named) (at : Access) (a b : Draft) → at ≡ access_by a.tables v → Emits a b (Doing (λ w. store_code at)) → Emits a b (Storing v)
+store_emitted v at a b is store =
     emits_as a b _ (Storing v)
-    (λ x t. subst (λ (o : ℕ). IsAt x.code (length a.bytes) (Sgw o) (length b.bytes)) (is ∙ ap (λ (ts : Tables). (variable_by (slice_get ts.variables v)).offset) (sym t.1)) t.0)
+    (λ x t. subst (λ (at : Access). IsAt x.code (length a.bytes) (store_code at) (length b.bytes)) (is ∙ ap (λ (ts : Tables). access_by ts v) (sym t.1)) t.0)
     (emits_tied a b _ store)
 
-module _ (n : ℕ) (exit : Option ℕ) (v : ℕ) (k : Kind) (from to : Expression) (step : ℤ) (body : Statements) where
-  pub for_emitted : (word place sign offset end turn : ℕ) (c0 c1 c2 c3 c4 c5 c6 c7 c8 c9 c10 c11 c12 c13 : Draft) → word ≡ word_of step → place ≡ loop_place n % 65536
-      → sign ≡ loop_sign (compared_as (base_of k)) → offset ≡ (variable_by (slice_get c9.tables.variables v)).offset → Emits c0 c1 (Value from) → Emits c1 c2 (Value to) → Emits c2 c3 Nothing → Makes c2 c3 end
+module _ (n : ℕ) (exit : Option ℕ) (v : Named) (k : Kind) (from to : Expression) (step : ℤ) (body : Statements) where
+  pub for_emitted : (word place sign inner end turn : ℕ) (at : Access) (c0 c1 c2 c3 c4 c5 c6 c7 c8 c9 c10 c11 c12 c13 : Draft) → word ≡ word_of step → place ≡ framed (loop_place n)
+      → sign ≡ loop_sign (compared_as (base_of k)) → at ≡ access_by c9.tables v → inner ≡ min (n + 3) 65535 → Emits c0 c1 (Value from) → Emits c1 c2 (Value to) → Emits c2 c3 Nothing → Makes c2 c3 end
       → Emits c3 c4 (Aligning (covers (base_of k) (kind_of from)) (outside_turns (compared_as (base_of k)) step) end) → Emits c4 c5 (Doing (λ w. Liw word)) → Emits c5 c6 (Doing (λ w. Fri place sign (w end)))
-      → Emits c6 c7 (Marking turn) → Emits c7 c8 (Doing (λ w. Llw place)) → Emits c8 c9 (DoingAll (test_code k (base_of k))) → Emits c9 c10 (Doing (λ w. Sgw offset)) → Adds (body_strings body) c10 c11 (Body ((n + 3) % 65536) exit body)
+      → Emits c6 c7 (Marking turn) → Emits c7 c8 (Doing (λ w. Llw place)) → Emits c8 c9 (DoingAll (test_code k (base_of k))) → Emits c9 c10 (Doing (λ w. store_code at)) → Adds (body_strings body) c10 c11 (Body inner exit body)
       → Emits c11 c12 (Doing (λ w. Frn place (w turn))) → Ends c12 c13 end → Adds (body_strings body) c0 c13 (Stated n exit (For v k from to step body))
-  for_emitted word place sign offset end turn c0 c1 c2 c3 c4 c5 c6 c7 c8 c9 c10 c11 c12 c13 stepped placed signed lies first last new makes align load enter mark value test store here next put =
+  for_emitted word place sign inner end turn at c0 c1 c2 c3 c4 c5 c6 c7 c8 c9 c10 c11 c12 c13 stepped placed signed lies deeper first last new makes align load enter mark value test store here next put =
       adds_as c0 c13 _ (append-nil (body_strings body))
       (emits_as c0 c13 _ (Stated n exit (For v k from to step body))
       (λ x t many taken sound room.
-      let written = x.layout.target (loop_place many) in
-      let at_place : place ≡ written = omega (arith, placed, taken, x.cuts (loop_place many) (omega (arith, room))) in
-      let within : (3 + many) % 65536 ≡ (n + 3) % 65536 = omega (arith, taken) in
+      let written = framed (loop_place many) in
+      let at_place : place ≡ written = omega (arith, placed, taken) in
+      let within : min 65535 (3 + many) ≡ inner = omega (arith, taken, deeper) in
       let turns = t.0.1.1 in
       let marked = turns.1.1.1 in
       record {
@@ -156,7 +158,7 @@ module _ (n : ℕ) (exit : Option ℕ) (v : ℕ) (k : Kind) (from to : Expressio
             is_step = sound.3;
             load = subst (λ (p : ℕ). IsAt x.code (length c6.bytes) (Llw p) (length c8.bytes)) at_place marked.1.0;
             test = marked.1.1.0;
-            store = marked.1.1.1.0;
+            store = subst (λ (at : Access). IsAt x.code (length c9.bytes) (store_code at) (length c10.bytes)) (known_access x v k sound.0) marked.1.1.1.0;
             here = marked.1.1.1.1.0 (3 + many) within sound.4 (omega (arith, room));
             next = subst (λ (i : Instr). IsAt x.code (length c11.bytes) i (length c13.bytes)) (ap (λ (p : ℕ). Frn p (x.word turn)) at_place ∙ ap (λ (w : ℕ). Frn written w) marked.0) marked.1.1.1.1.1;
           };
@@ -172,23 +174,23 @@ module _ (n : ℕ) (exit : Option ℕ) (v : ℕ) (k : Kind) (from to : Expressio
       (emits_mark c6 c7 c12 turn _ mark
       (emits_then c7 c8 c12 _ _ value
       (emits_then c8 c9 c12 _ _ test
-      (emits_then c9 c10 c12 _ _ (store_emitted v offset c9 c10 lies store)
+      (emits_then c9 c10 c12 _ _ (store_emitted v at c9 c10 lies store)
       (emits_then c10 c11 c12 _ _ here next)))))))))))
       (λ k h. makes.apart k (last.keeps k (first.keeps k h))) put))
 
 -- ---- WITH
-pub with_emitted : (n word m : ℕ) (exit : Option ℕ) (d : Designator) (body : Statements) (c0 c1 c2 c3 c4 c5 : Draft) → word ≡ loop_place n % 65536
-    → Emits c0 c1 (Addressed d m) → Emits c1 c2 (Doing (λ w. Slw word)) → c3 ≡ inside (record { word = word; shape = m }) c2 → Adds (body_strings body) c3 c4 (Body ((n + 1) % 65536) exit body) → c5 ≡ outside c4
+pub with_emitted : (n word inner m : ℕ) (exit : Option ℕ) (d : Designator) (body : Statements) (c0 c1 c2 c3 c4 c5 : Draft) → word ≡ framed (loop_place n) → inner ≡ min (n + 1) 65535
+    → Emits c0 c1 (Addressed d m) → Emits c1 c2 (Doing (λ w. Slw word)) → c3 ≡ inside (record { word = word; shape = m }) c2 → Adds (body_strings body) c3 c4 (Body inner exit body) → c5 ≡ outside c4
     → Adds (body_strings body) c0 c5 (Stated n exit (Inside d body))
-with_emitted n word m exit d body c0 c1 c2 c3 c4 c5 placed address keep enter here leave =
+with_emitted n word inner m exit d body c0 c1 c2 c3 c4 c5 placed deeper address keep enter here leave =
     emits_as c0 c5 _ (Stated n exit (Inside d body))
     (λ x t many taken sound room.
-    let at_place : word ≡ x.layout.target (loop_place many) = omega (arith, placed, taken, x.cuts (loop_place many) (omega (arith, room))) in
-    let within : suc many % 65536 ≡ (n + 1) % 65536 = omega (arith, taken) in
+    let at_place : word ≡ framed (loop_place many) = omega (arith, placed, taken) in
+    let within : min 65535 (suc many) ≡ inner = omega (arith, taken, deeper) in
     let at = t.0 sound.0.place sound.0.there in
     let outcome = option_map x.word exit in
-    let inner = subst (λ (t : Shape). IsSoundBody (with_held x.layout.scope t) (is_some exit) body) (sym at.shape) sound.1 in
-    let stands : BodyAt (holding x.layout (shape_at (shapes_of x.tables.shapes) m) word) x.code (suc many) outcome body (length c2.bytes) (length c5.bytes) = t.1.1 (suc many) within inner (omega (arith, room)) in
+    let right = subst (λ (t : Shape). IsSoundBody (with_held x.layout.scope t) (is_some exit) body) (sym at.shape) sound.1 in
+    let stands : BodyAt (holding x.layout (shape_at (shapes_of x.tables.shapes) m) word) x.code (suc many) outcome body (length c2.bytes) (length c5.bytes) = t.1.1 (suc many) within right (omega (arith, room)) in
     record {
       found = at.found;
       start = length c1.bytes;
@@ -202,7 +204,7 @@ with_emitted n word m exit d body c0 c1 c2 c3 c4 c5 placed address keep enter he
       within = subst (λ (w : ℕ). BodyAt (holding x.layout (shape_of x.layout.scope d) w) x.code (suc many) outcome body (length c2.bytes) (length c5.bytes)) at_place
           (subst (λ (t : Shape). BodyAt (holding x.layout t word) x.code (suc many) outcome body (length c2.bytes) (length c5.bytes)) at.shape stands);
     })
-    (emits_then c0 c1 c5 _ _ address (emits_then c1 c2 c5 _ _ keep (emits_inside (record { word = word; shape = m }) c2 c3 c4 c5 (Body ((n + 1) % 65536) exit body) enter here leave)))
+    (emits_then c0 c1 c5 _ _ address (emits_then c1 c2 c5 _ _ keep (emits_inside (record { word = word; shape = m }) c2 c3 c4 c5 (Body inner exit body) enter here leave)))
 
 -- ---- the code of CASE
 
@@ -266,7 +268,7 @@ entries_at x k (r ∷ labels) arm to t u rest w (suc n) is base sound named h mo
       subst (λ (m : ℕ). EntriesAt x.code k (map label_of labels) (x.layout.target to) rest m n) at.behind (entries_at x k labels arm to h.0 u rest w n fewer base sound.1 named h.2 more),
     )
 
-module _ (x : Final) (n many : ℕ) (taken : many % 65536 ≡ n) (exit : Option ℕ) (leave label out : ℕ) (k : Kind) where
+module _ (x : Final) (n many : ℕ) (taken : min 65535 many ≡ n) (exit : Option ℕ) (leave label out : ℕ) (k : Kind) where
   else_named : (other : Option (List RStmt)) (p q : ℕ) → ElsePart n exit leave label other x p q → x.word label ≡ x.layout.target p
   else_named None p q h = h.0
   else_named (Some ss) p q h = h.named

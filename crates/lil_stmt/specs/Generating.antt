@@ -1,5 +1,5 @@
 -- What the code means that the generator of statements adds.
-use Rattle.std.specs.Prelude.{◌≡◌, ℕ, ◌+◌, ◌%◌, ◌≤◌, pos, negsuc, ◌≤ℤ◌, Bool, true, List, [], ◌∷◌, length, Option, Some, None}
+use Rattle.std.specs.Prelude.{◌≡◌, ℕ, ◌+◌, ◌%◌, ◌≤◌, min, pos, negsuc, ◌≤ℤ◌, Bool, true, List, [], ◌∷◌, length, Option, Some, None}
 use Rattle.std.specs.Option.{is_some, option_map}
 use Rattle.lil_base.specs.Words.{word_of}
 use Rattle.lil_resolved.specs.{declared.resolved.{RArgument.RArgument, RStmt.RStmt, RGuard.RGuard, RArm.RArm, RLabel.RLabel}, Kinds.{Kind, is_there, shape_at}, Resolved.{Designator, Expression, Argument, Label, Statement, Statements, shape_of}, Views.{argument_of, statement_of, guard_of, statements_of, label_of, shapes_of}, Sizes.{argument_strings, body_strings, statement_words, body_words}}
@@ -46,15 +46,15 @@ pub record AddressAt (d : Designator) (n : ℕ) (x : Final) (p q : ℕ) : Type 0
 abbrev pub Addressed : Designator → ℕ → Meaning
 Addressed d n x p q = IsSoundPlace x.layout.scope d → is_there (shape_of x.layout.scope d) ≡ true → AddressAt d n x p q
 
--- Where the FORs and WITHs around it take n words of the frame, which are these cut to 16 bits, a sound statement has its code where the
--- frame has room for its own. An EXIT leads to a label.
+-- Where the variables, and the FORs and WITHs around it take n words of the frame, which are these up to 65,535, a sound statement has its
+-- code where the frame has room for its own. An EXIT leads to a label.
 abbrev pub Stated : ℕ → Option ℕ → Statement → Meaning
 Stated cut exit s x p q =
-    (n : ℕ) → n % 65536 ≡ cut → IsSoundStatement x.layout.scope (is_some exit) s → loop_place n + statement_words s ≤ x.layout.frame → StatementAt x.layout x.code n (option_map x.word exit) s p q
+    (n : ℕ) → min 65535 n ≡ cut → IsSoundStatement x.layout.scope (is_some exit) s → loop_place n + statement_words s ≤ x.layout.frame → StatementAt x.layout x.code n (option_map x.word exit) s p q
 
 -- the same of statements
 abbrev pub Body : ℕ → Option ℕ → Statements → Meaning
-Body cut exit ss x p q = (n : ℕ) → n % 65536 ≡ cut → IsSoundBody x.layout.scope (is_some exit) ss → loop_place n + body_words ss ≤ x.layout.frame → BodyAt x.layout x.code n (option_map x.word exit) ss p q
+Body cut exit ss x p q = (n : ℕ) → min 65535 n ≡ cut → IsSoundBody x.layout.scope (is_some exit) ss → loop_place n + body_words ss ≤ x.layout.frame → BodyAt x.layout x.code n (option_map x.word exit) ss p q
 
 -- a statement of a body, and the words of its strings
 abbrev pub StatementPart : ℕ → Option ℕ → RStmt → Meaning

@@ -1,7 +1,7 @@
 //! The code of resolved statements.
 
 ghost use Rattle.std.specs.{Prelude.{◌≡◌, true, length, IfOk, OnOk}, List.flat_map};
-ghost use Rattle.lil_resolved.specs.{Resolved.{While, Repeat, Loop, For, Inside}, Views.{variable_kind, expression_of, place_of, statement_of, statements_of}, Sizes.body_strings};
+ghost use Rattle.lil_resolved.specs.{Resolved.{While, Repeat, Loop, For, Inside}, Views.{named_view, variable_kind, expression_of, place_of, statement_of, statements_of}, Sizes.body_strings};
 ghost use Rattle.lil_labels.specs.Drafts.{Each, Adds, Emits};
 ghost use Rattle.lil_stmt.specs.{Generating.{Stated, Body, GuardPart, guard_part, ArmPart, ArmBody, arm_part, Trapping, paired}, Forms.is_case};
 
@@ -13,15 +13,15 @@ use crate::simple::{
     emit_new, emit_request, emit_text,
 };
 use crate::starts::emit_align;
-use crate::targets::emit_address_of;
+use crate::targets::{emit_address_of, emit_store};
 use lil_asm::Instr;
 use lil_base::Memory;
-use lil_expr::{emit_expression, word_of_number};
+use lil_expr::{emit_expression, variable_access, word_of_number};
 use lil_labels::{Aim, CodeBuffer};
 use lil_resolved::{RArm, RExpr, RGuard, RPlace, RStmt, RVariable};
 
-/// What stands around a statement: how many words of the frame the FORs and WITHs take, cut to 16 bits, and the label of the
-/// place behind the LOOP, where there is one.
+/// What stands around a statement: how many words of the frame the variables, the FORs and the WITHs take, up to 65,535, and
+/// the label of the place behind the LOOP, where there is one.
 #[derive(Clone, Copy)]
 pub struct Around {
     pub words: u16,
@@ -251,7 +251,7 @@ fn emit_for(
     step: i16,
     around: Around,
 ) -> Result<(), Memory>
-    ensures { OnOk result (Adds (body_strings (statements_of body.now)) code.old code.new (Stated around.words around.exit (For variable.number (variable_kind variable) (expression_of from.now) (expression_of to.now) step (statements_of body.now)))) }
+    ensures { OnOk result (Adds (body_strings (statements_of body.now)) code.old code.new (Stated around.words around.exit (For (named_view variable.named) (variable_kind variable) (expression_of from.now) (expression_of to.now) step (statements_of body.now)))) }
 {
     emit_expression(code, from)?;
     emit_expression(code, to)?;
@@ -263,10 +263,10 @@ fn emit_for(
     let turn = code.mark()?;
     code.put(Instr::Llw(place))?;
     emit_turn_test(code, variable.kind)?;
-    let lies = code.variable(variable.number);
-    code.put(Instr::Sgw(lies.offset))?;
+    let lies = code.variable(variable.named);
+    emit_store(code, variable_access(variable.named, lies.offset))?;
     let inside = Around {
-        words: around.words.wrapping_add(3),
+        words: around.words.saturating_add(3),
         exit: around.exit,
     };
     emit_body(code, body, inside)?;
@@ -290,7 +290,7 @@ fn emit_with(
     code.put(Instr::Slw(word))?;
     code.hold(word, shape)?;
     let inside = Around {
-        words: around.words.wrapping_add(1),
+        words: around.words.saturating_add(1),
         exit: around.exit,
     };
     emit_body(code, body, inside)?;

@@ -36,7 +36,7 @@ fn emit_ready(code: &mut CodeBuffer<'_>, access: Access) -> Result<Access, Memor
     ensures { IfOk result (λ ready. Emits code.old code.new (Readied (access_view access) (access_view ready))) }
 {
     match access {
-        Access::InData(_) | Access::OnTop => Ok(access),
+        Access::InData(_) | Access::InFrame(_, _) | Access::OnTop => Ok(access),
         Access::Behind(offset) => {
             code.put_all(&[Instr::Adf(offset)])?;
             Ok(Access::OnTop)
@@ -49,7 +49,7 @@ pub(crate) fn emit_again(code: &mut CodeBuffer<'_>, access: Access) -> Result<()
     ensures { OnOk result (Emits code.old code.new (DoingAll (again_code (access_view access)))) }
 {
     match access {
-        Access::InData(_) => Ok(()),
+        Access::InData(_) | Access::InFrame(_, _) => Ok(()),
         Access::OnTop | Access::Behind(_) => code.put_all(&[Instr::Dup]),
     }
 }
@@ -60,6 +60,8 @@ pub(crate) fn emit_under(code: &mut CodeBuffer<'_>, access: Access) -> Result<()
 {
     match access {
         Access::InData(offset) => code.put_all(&[Instr::Lgw(offset), Instr::Swp]),
+        Access::InFrame(0, offset) => code.put_all(&[Instr::Llw(offset), Instr::Swp]),
+        Access::InFrame(levels, offset) => code.put_all(&[Instr::Lnw(levels, offset), Instr::Swp]),
         Access::OnTop | Access::Behind(_) => { code.put_all(&[Instr::Swp, Instr::Ldi, Instr::Swp]) }
     }
 }
@@ -70,6 +72,8 @@ pub(crate) fn emit_store(code: &mut CodeBuffer<'_>, access: Access) -> Result<()
 {
     match access {
         Access::InData(offset) => code.put(Instr::Sgw(offset)),
+        Access::InFrame(0, offset) => code.put(Instr::Slw(offset)),
+        Access::InFrame(levels, offset) => code.put(Instr::Snw(levels, offset)),
         Access::OnTop | Access::Behind(_) => code.put(Instr::Sti),
     }
 }

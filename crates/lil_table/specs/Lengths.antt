@@ -2,12 +2,12 @@
 use Rattle.std.proofs.Common.{◌≡◌, ℕ, zero, suc, ◌+◌, ◌*◌, ◌≤◌, Bool, true, false, cond, if◌then◌else◌, List, [], ◌∷◌, ◌++◌, Option, Some, None, length, refl, ap, ◌∙◌, arith}
 use Rattle.lil_base.specs.{Words.{Whole, Cardinal, Integer, word_of}, declared.operator.{OneOp.OneOp, TwoOp.{TwoOp, TheVariants.{Equal, Unequal, Less, AtMost, Greater, AtLeast, In, Plus, Minus, Times, Slash, Or, And}}}, Requests.request_number}
 use Rattle.lil_base.specs.declared.operator.OneOp.TheVariants as one
-use Rattle.lil_resolved.specs.Kinds.{Kind, OfWhole, OfCharacter, OfSet, OfPointer, base_of, compared_as, covers, shared, outside_turns, words, shape_at}
-use Rattle.lil_resolved.specs.Resolved.{Designator, Variable, Held, Field, Element, Follow, Function, Abs, Cap, Chr, Odd, Ord, Val, Expression, Constant, Taken, One, Two, Short, Apply, With, WithSpan, Argument, ByValue, OfArray, OfText, Label, Statement, Assign, Copy, Text, Change, Member, New, Allocate, Request, If, Case, While, Repeat, Loop, Exit, Halt, Return, Call, For, Inside, Statements, Empty, Then, Arms, NoElse, Else, Arm, Procedure, Resolved, kind_of, counted_as, shape_of}
-use Rattle.lil_resolved.specs.Sizes.{statement_words, body_words, arms_words, frame_words, argument_size, one_size, two_size, test_size, function_size, Form, Direct, Exact, Beyond, field_form, form_of, address_size, load_size, ready_size, store_size, again_size, under_size, place_size, target_size, size, arguments_size, allocate_size, statement_size, body_size, arms_size, framed_size, procedures_size, code_size}
+use Rattle.lil_resolved.specs.Kinds.{Kind, OfWhole, OfCharacter, OfSet, OfPointer, base_of, compared_as, covers, shared, outside_turns, Shape, words, all_words, shape_at}
+use Rattle.lil_resolved.specs.Resolved.{Named, OfModule, OfLevel, Designator, Variable, Held, Field, Element, Follow, Function, Abs, Cap, Chr, Odd, Ord, Val, Expression, Constant, Taken, One, Two, Short, Apply, With, WithSpan, Argument, ByValue, OfArray, OfText, Label, Statement, Assign, Copy, Text, Change, Member, New, Allocate, Request, If, Case, While, Repeat, Loop, Exit, Halt, Return, Call, For, Inside, Statements, Empty, Then, Arms, NoElse, Else, Arm, Procedure, Resolved, kind_of, counted_as, shape_of}
+use Rattle.lil_resolved.specs.Sizes.{statement_words, body_words, arms_words, frame_words, argument_size, one_size, two_size, test_size, function_size, Form, Direct, Outward, variable_form, Exact, Beyond, field_form, form_of, address_size, load_size, ready_size, store_size, again_size, under_size, place_size, target_size, size, arguments_size, allocate_size, statement_size, body_size, arms_size, framed_size, procedures_size, code_size}
 use Rattle.lil_resolved.specs.Sound.{takes_two}
 use Rattle.lil_asm.specs.{declared.instr.Instr.{Instr, TheVariants.{Liw, Lag, Dup, Drp, Nlt, Llw, Slw, Sgw, Swp, Rgc, Lsi, Spn, Mrk, Cll, Ent, Rtn, Jmp, Jpf, Cas, Fri, Frn, Trp, Alc, Svc}}, Bytes.bytes_of, Decoding.decoded_stands, Stretches.stretch}
-use Rattle.lil_table.specs.Rows.{Layout, in_procedure, holding, argument_words, ArgumentAt, IsAt, InstrsAt, one_code, whole_code, two_code, range_code, test_code, function_code, Access, InData, OnTop, Behind, further, access_of, address_code, load_code, ready_code, readied, held, store_code, again_code, under_code, change_operator, change_code, member_code, allocate_code, short_code, loop_place, loop_sign, ValueRow, TargetRow, EntriesAt, AlignAt, PlaceAt, ExpressionAt, ArgumentsAt, StatementAt, BodyAt, ArmsAt, FramedRow, ProceduresAt, TranslatesBy}
+use Rattle.lil_table.specs.Rows.{Layout, framed, in_procedure, holding, argument_words, ArgumentAt, IsAt, InstrsAt, one_code, whole_code, two_code, range_code, test_code, function_code, Access, InData, InFrame, access_at, OnTop, Behind, further, access_of, address_code, load_code, ready_code, readied, held, store_code, again_code, under_code, change_operator, change_code, member_code, allocate_code, short_code, loop_place, loop_sign, ValueRow, TargetRow, EntriesAt, AlignAt, PlaceAt, ExpressionAt, ArgumentsAt, StatementAt, BodyAt, ArmsAt, FramedRow, ProceduresAt, TranslatesBy}
 
 -- the bytes of an instruction, and of several
 abbrev pub instr_size : Instr → ℕ
@@ -87,16 +87,22 @@ function_sized (Val j) k = test_sized j k
 -- ---- how code has a place
 abbrev access_form : Access → Form
 access_form (InData o) = Direct
+access_form (InFrame zero o) = Direct
+access_form (InFrame (suc n) o) = Outward
 access_form OnTop = Exact
 access_form (Behind o) = Beyond
 
 further_formed : (n : ℕ) (a : Access) → access_form (further n a) ≡ field_form (access_form a)
 further_formed n (InData o) = refl
+further_formed n (InFrame zero o) = refl
+further_formed n (InFrame (suc i) o) = refl
 further_formed n OnTop = refl
 further_formed n (Behind o) = refl
 
 formed : (l : Layout) (d : Designator) → access_form (access_of l d) ≡ form_of d
-formed l (Variable x) = refl
+formed l (Variable (OfModule x)) = refl
+formed l (Variable (OfLevel zero x)) = refl
+formed l (Variable (OfLevel (suc n) x)) = refl
 formed l (Held w) = refl
 formed l (Field d i) = further_formed _ (access_of l d) ∙ ap field_form (formed l d)
 formed l (Element d k e) = refl
@@ -104,31 +110,49 @@ formed l (Follow d n) = refl
 
 address_sized : (a : Access) → instrs_size (address_code a) ≡ address_size (access_form a)
 address_sized (InData o) = refl
+address_sized (InFrame zero o) = refl
+address_sized (InFrame (suc n) o) = refl
 address_sized OnTop = refl
 address_sized (Behind o) = refl
 
 load_sized : (a : Access) → instr_size (load_code a) ≡ load_size (access_form a)
 load_sized (InData o) = refl
+load_sized (InFrame zero o) = refl
+load_sized (InFrame (suc n) o) = refl
 load_sized OnTop = refl
 load_sized (Behind o) = refl
 
 ready_sized : (a : Access) → instrs_size (ready_code a) ≡ ready_size (access_form a)
 ready_sized (InData o) = refl
+ready_sized (InFrame zero o) = refl
+ready_sized (InFrame (suc n) o) = refl
 ready_sized OnTop = refl
 ready_sized (Behind o) = refl
 
 store_sized : (a : Access) → instr_size (store_code (readied a)) ≡ store_size (access_form a)
 store_sized (InData o) = refl
+store_sized (InFrame zero o) = refl
+store_sized (InFrame (suc n) o) = refl
 store_sized OnTop = refl
 store_sized (Behind o) = refl
 
+-- the store to a variable
+stored_sized : (v : Named) (o : ℕ) → instr_size (store_code (access_at v o)) ≡ store_size (variable_form v)
+stored_sized (OfModule x) o = refl
+stored_sized (OfLevel zero x) o = refl
+stored_sized (OfLevel (suc n) x) o = refl
+
 again_sized : (a : Access) → instrs_size (again_code (readied a)) ≡ again_size (access_form a)
 again_sized (InData o) = refl
+again_sized (InFrame zero o) = refl
+again_sized (InFrame (suc n) o) = refl
 again_sized OnTop = refl
 again_sized (Behind o) = refl
 
 under_sized : (a : Access) → instrs_size (under_code (readied a)) ≡ under_size (access_form a)
 under_sized (InData o) = refl
+under_sized (InFrame zero o) = refl
+under_sized (InFrame (suc n) o) = refl
 under_sized OnTop = refl
 under_sized (Behind o) = refl
 
@@ -164,7 +188,7 @@ test_long code k j p q h = omega (arith, instrs_long code (test_code k j) p q h,
 
 mutual
   pub place_long : (l : Layout) (code : List ℕ) (d : Designator) (p q : ℕ) → PlaceAt l code d p q → q ≡ p + place_size d
-  place_long l code (Variable x) p q h = omega (arith, h.stays)
+  place_long l code (Variable v) p q h = omega (arith, h.stays)
   place_long l code (Held w) p q h = instr_long code p _ q h.load
   place_long l code (Field d i) p q h = place_long l code d p q h.here
   place_long l code (Element d k e) p q h =
@@ -325,19 +349,20 @@ mutual
         expression_long l code b h.middle h.last h.limit.value,
         align_long l code (covers (base_of k) (kind_of a)) (outside_turns (compared_as (base_of k)) step) h.last t.aligned q t.align,
         instr_long code t.aligned (Liw (word_of step)) t.stepped t.load,
-        instr_long code t.stepped (Fri (l.target (loop_place n)) (loop_sign (compared_as (base_of k))) (l.target q)) t.turn t.enter,
-        instr_long code t.turn (Llw (l.target (loop_place n))) r.loaded r.load,
+        instr_long code t.stepped (Fri (framed (loop_place n)) (loop_sign (compared_as (base_of k))) (l.target q)) t.turn t.enter,
+        instr_long code t.turn (Llw (framed (loop_place n))) r.loaded r.load,
         test_long code k (base_of k) r.loaded r.tested r.test,
-        instr_long code r.tested (Sgw r.known.offset) r.start r.store,
+        instr_long code r.tested (store_code (access_at x r.known.offset)) r.start r.store,
+        stored_sized x r.known.offset,
         body_long l code (3 + n) exit body r.start r.end r.here,
-        instr_long code r.end (Frn (l.target (loop_place n)) (l.target t.turn)) q r.next,
+        instr_long code r.end (Frn (framed (loop_place n)) (l.target t.turn)) q r.next,
       )
   statement_long l code n exit (Inside d body) p q h =
       omega (
         arith,
         addressed_long l code d p h.found h.start h.here h.address,
-        instr_long code h.start (Slw (l.target (loop_place n))) h.kept h.keep,
-        body_long (holding l (shape_of l.scope d) (l.target (loop_place n))) code (suc n) exit body h.kept q h.within,
+        instr_long code h.start (Slw (framed (loop_place n))) h.kept h.keep,
+        body_long (holding l (shape_of l.scope d) (framed (loop_place n))) code (suc n) exit body h.kept q h.within,
       )
 
   pub body_long : (l : Layout) (code : List ℕ) (n : ℕ) (exit : Option ℕ) (ss : Statements) (p q : ℕ) → BodyAt l code n exit ss p q → q ≡ p + body_size ss
@@ -352,18 +377,19 @@ mutual
       let left = entries_end code k labels (l.target p) (ArmsAt l code n exit k rest leave other table h.gap) t w h.entries in
       omega (arith, body_long l code n exit body p h.end h.here, instr_long code h.end (Jmp (l.target leave)) h.gap h.leave, left.2, arms_long l code n exit k rest leave other table h.gap left.0 left.1 left.3)
 
-pub framed_long : (l : Layout) (code : List ℕ) (ss : Statements) (p q : ℕ) → FramedRow l code ss p q → q ≡ p + framed_size ss
-framed_long l code ss p q h = omega (arith, instr_long code p (Ent (l.target (frame_words ss))) h.start h.enter, body_long l code 0 None ss h.start h.end h.body, instr_long code h.end Rtn q h.leave)
+pub framed_long : (l : Layout) (code : List ℕ) (locals : List Shape) (ss : Statements) (p q : ℕ) → FramedRow l code locals ss p q → q ≡ p + framed_size ss
+framed_long l code locals ss p q h =
+    omega (arith, instr_long code p (Ent (framed (frame_words locals ss))) h.start h.enter, body_long l code (all_words locals) None ss h.start h.end h.body, instr_long code h.end Rtn q h.leave)
 
 pub procedures_long : (l : Layout) (code : List ℕ) (n : ℕ) (ps : List Procedure) (es : List ℕ) (p q : ℕ) → ProceduresAt l code n ps es p q → q ≡ p + procedures_size ps
 procedures_long l code n [] [] p q h = omega (arith, h)
-procedures_long l code n (its ∷ ps) (e ∷ es) p q h = omega (arith, framed_long (in_procedure l n its) (stretch p h.1.middle code) its.body p h.1.middle h.1.here, procedures_long l code (suc n) ps es h.1.middle q h.1.then)
+procedures_long l code n (its ∷ ps) (e ∷ es) p q h = omega (arith, framed_long (in_procedure l n its) (stretch p h.1.middle code) its.locals its.body p h.1.middle h.1.here, procedures_long l code (suc n) ps es h.1.middle q h.1.then)
 procedures_long l code n [] (e ∷ es) p q h = absurd h
 procedures_long l code n (its ∷ ps) [] p q h = absurd h
 
 -- any translation of a module has as many bytes as its size says
 pub module_long : (l : Layout) (m : Resolved) (entries code : List ℕ) → TranslatesBy l m entries code → length code ≡ code_size m
-module_long l m entries code h = omega (arith, framed_long l (stretch 0 h.middle code) m.body 0 h.middle h.body, procedures_long l code 1 m.procedures entries h.middle (length code) h.procedures)
+module_long l m entries code h = omega (arith, framed_long l (stretch 0 h.middle code) [] m.body 0 h.middle h.body, procedures_long l code 1 m.procedures entries h.middle (length code) h.procedures)
 
 -- ---- a frame has no more words than its code has bytes
 mutual

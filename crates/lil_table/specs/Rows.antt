@@ -1,20 +1,19 @@
 -- The translation table: which bytes from one place to another are a translation of a part. It has one row for each construct. The place
--- in a jump, the words of a frame and how many entries a table has are written as they are, or in code that is too long for that cut to 16
--- bits.
-use Rattle.std.specs.Prelude.{◌≡◌, ℕ, zero, suc, ◌+◌, ◌-◌, ◌*◌, ◌%◌, ◌<◌, ◌≤◌, max, ℤ, Bool, true, false, List, [], ◌∷◌, ◌++◌, length, drop, map, get_or, Option, Some, None, slice_get, cond}
+-- in a jump and how many entries a table has are written as they are, or in code that is too long for that cut to 16 bits.
+use Rattle.std.specs.Prelude.{◌≡◌, ℕ, zero, suc, ◌+◌, ◌-◌, ◌*◌, ◌%◌, ◌<◌, ◌≤◌, min, max, ℤ, Bool, true, false, List, [], ◌∷◌, ◌++◌, length, drop, map, get_or, Option, Some, None, slice_get, cond}
 use Rattle.lil_base.specs.{Words.{Whole, Cardinal, Integer, word_of}, declared.operator.{OneOp.OneOp, TwoOp.{TwoOp, TheVariants.{Equal, Unequal, Less, AtMost, Greater, AtLeast, In, Plus, Minus, Times, Slash, Div, Mod}}}, Requests.request_number}
 use Rattle.lil_base.specs.declared.operator.OneOp.TheVariants as one
 use Rattle.lil_base.specs.declared.request.Request as request
-use Rattle.lil_resolved.specs.Kinds.{Objects, Workspaces, Kind, OfWhole, OfTruth, OfCharacter, OfSet, OfPointer, base_of, is_ordinal, is_set, is_plain, is_element, takes_value, stores_value, compared_as, covers, shared, outside_turns, least, numbers, Scalar, is_literal, scalar_word, Shape, Word, Row, Scope, with_held, MayCall, words, is_there, part_at, offset, all_words, offsets_from, shape_at, element_of}
-use Rattle.lil_resolved.specs.Resolved.{Designator, Variable, Held, Field, Element, Follow, Function, Abs, Cap, Chr, Odd, Ord, Val, Expression, Constant, Taken, One, Two, Short, Apply, With, WithSpan, Argument, ByValue, OfArray, OfText, Label, Statement, Assign, Copy, Text, Change, Member, New, Allocate, Request, If, Case, While, Repeat, Loop, Exit, Halt, Return, Call, For, Inside, Statements, Empty, Then, Arms, NoElse, Else, Arm, Procedure, Resolved, scope_in, kind_of, right_kind, counted_as, shape_of}
+use Rattle.lil_resolved.specs.Kinds.{Objects, Workspaces, Kind, OfWhole, OfTruth, OfCharacter, OfSet, OfPointer, base_of, is_ordinal, is_set, is_plain, is_element, takes_value, stores_value, compared_as, covers, shared, outside_turns, least, numbers, Scalar, is_literal, scalar_word, Shape, Word, Row, Scope, with_held, MayCall, locals_at, words, is_there, part_at, offset, all_words, offsets_from, shape_at, element_of}
+use Rattle.lil_resolved.specs.Resolved.{Named, OfModule, OfLevel, variable_at, Designator, Variable, Held, Field, Element, Follow, Function, Abs, Cap, Chr, Odd, Ord, Val, Expression, Constant, Taken, One, Two, Short, Apply, With, WithSpan, Argument, ByValue, OfArray, OfText, Label, Statement, Assign, Copy, Text, Change, Member, New, Allocate, Request, If, Case, While, Repeat, Loop, Exit, Halt, Return, Call, For, Inside, Statements, Empty, Then, Arms, NoElse, Else, Arm, Procedure, Resolved, scope_in, kind_of, right_kind, counted_as, shape_of}
 use Rattle.lil_resolved.specs.{Sizes.{place_depth, depth, frame_words}, Sound.{takes_one, takes_two, takes_function, IsScalar, IsSoundLabel, IsStep, is_text, request_parameters, parameter_of}}
 use Rattle.lil_asm.specs.declared.instr.Instr.{Instr}
-use Rattle.lil_asm.specs.declared.instr.Instr.TheVariants.{Liw, Dup, Drp, Llw, Slw, Lgw, Sgw, Lag, Ldi, Sti, Ldf, Adf, Mov, Mvz, Nlt, Ixc, Swp, Rgc, Rgi, Cap, Adc, Sbc, Mlc, Dvc, Mdc, Adi, Sbi, Mli, Dvi, Mdi, Ngi, Abi, Uni, Dif, Its, Sym, Sin, Spn, Icl, Ecl, Sle, Not, Equ, Neq, Lsc, Lec, Lsi, Lei, Mrk, Cll, Ent, Rtn, Jmp, Jpf, Jan, Jor, Cas, Fri, Frn, Trp, Alc, Svc}
+use Rattle.lil_asm.specs.declared.instr.Instr.TheVariants.{Liw, Dup, Drp, Llw, Slw, Lgw, Sgw, Lnw, Snw, Lal, Lan, Lag, Ldi, Sti, Ldf, Adf, Mov, Mvz, Nlt, Ixc, Swp, Rgc, Rgi, Cap, Adc, Sbc, Mlc, Dvc, Mdc, Adi, Sbi, Mli, Dvi, Mdi, Ngi, Abi, Uni, Dif, Its, Sym, Sin, Spn, Icl, Ecl, Sle, Not, Equ, Neq, Lsc, Lec, Lsi, Lei, Mrk, Cll, Ent, Rtn, Jmp, Jpf, Jan, Jor, Cas, Fri, Frn, Trp, Alc, Svc}
 use Rattle.lil_asm.specs.{Bytes.{word_at, decoded}, Requests.request_words, Stretches.stretch}
 
 -- Where the variables of a module lie in its data frame, by their numbers; the shapes that names reach, and the words of the frame that
 -- have the addresses of the records of the WITHs around, the innermost first; how many words the variables take, and the words of the
--- strings behind them; the words of the body's frame; and how a place in a jump, words of a frame and a number of entries are written.
+-- strings behind them; the words of the frame; and how a place in a jump and a number of entries are written.
 pub record Layout : Type 0 where
   pub offsets : List ℕ
   pub scope : Scope
@@ -38,7 +37,7 @@ layout_by target strings m = record {
   held = [];
   words = all_words m.variables;
   strings = strings;
-  frame = frame_words m.body;
+  frame = frame_words [] m.body;
   target = target;
 }
 
@@ -47,11 +46,15 @@ layout_of strings m = layout_by exactly strings m
 
 -- in a procedure of the module, by its number
 abbrev pub in_procedure : Layout → ℕ → Procedure → Layout
-in_procedure l p its = record l { scope = record l.scope { chain = p ∷ its.around }; frame = frame_words its.body }
+in_procedure l p its = record l { scope = record l.scope { chain = p ∷ its.around }; frame = frame_words its.locals its.body }
 
 -- inside of a WITH too, whose record has this shape, and its address this word of the frame
 abbrev pub holding : Layout → Shape → ℕ → Layout
 holding l t n = record l { scope = with_held l.scope t; held = n ∷ l.held }
+
+-- A word of a frame, as an instruction says it. A frame of more than 65,535 words is never entered, so what lies further is never reached.
+abbrev pub framed : ℕ → ℕ
+framed n = min 65535 n
 
 -- the bytes of the instruction stand from place p to place q
 abbrev pub IsAt : List ℕ → ℕ → Instr → ℕ → Type 0
@@ -141,16 +144,18 @@ function_code Ord k = test_code (OfWhole Cardinal) k
 function_code (Val j) k = test_code j k
 
 -- ---- places
--- how code has a place: at an offset in the data of the module at hand, by its address on the expression stack, or so many words behind
--- that address
+-- how code has a place: at an offset in the data of the module at hand, or in the frame of the procedure so many levels out, of which the one
+-- at hand is 0; by its address on the expression stack, or so many words behind that address
 pub data Access : Type 0 where
   InData : (offset : ℕ) → Access
+  InFrame : (n offset : ℕ) → Access
   OnTop : Access
   Behind : (offset : ℕ) → Access
 
 -- the place so many words further
 abbrev pub further : ℕ → Access → Access
 further n (InData o) = InData (o + n)
+further n (InFrame i o) = InFrame i (framed (o + n))
 further n OnTop = Behind n
 further n (Behind o) = Behind (o + n)
 
@@ -158,9 +163,18 @@ abbrev pub offset_in : Option ℕ → ℕ
 offset_in None = 0
 offset_in (Some o) = o
 
+-- where a variable lies among those of its owner: those of a procedure lie behind the mark of its frame
+abbrev pub offset_at : Layout → Named → Option ℕ
+offset_at l (OfModule x) = slice_get l.offsets x
+offset_at l (OfLevel n x) = slice_get (offsets_from 4 (locals_at l.scope n)) x
+
+abbrev pub access_at : Named → ℕ → Access
+access_at (OfModule x) o = InData o
+access_at (OfLevel n x) o = InFrame n (framed o)
+
 -- how code has the place of a designator
 abbrev pub access_of : Layout → Designator → Access
-access_of l (Variable x) = InData (offset_in (slice_get l.offsets x))
+access_of l (Variable v) = access_at v (offset_in (offset_at l v))
 access_of l (Held w) = OnTop
 access_of l (Field d i) = further (offset (shape_of l.scope d) (i ∷ [])) (access_of l d)
 access_of l (Element d k e) = OnTop
@@ -169,50 +183,62 @@ access_of l (Follow d n) = OnTop
 -- the instructions that bring its address to the expression stack
 abbrev pub address_code : Access → List Instr
 address_code (InData o) = Lag o ∷ []
+address_code (InFrame zero o) = Lal o ∷ []
+address_code (InFrame (suc n) o) = Lan (suc n) o ∷ []
 address_code OnTop = []
 address_code (Behind o) = Adf o ∷ []
 
 -- the instruction that brings the word that lies there
 abbrev pub load_code : Access → Instr
 load_code (InData o) = Lgw o
+load_code (InFrame zero o) = Llw o
+load_code (InFrame (suc n) o) = Lnw (suc n) o
 load_code OnTop = Ldi
 load_code (Behind o) = Ldf o
 
 -- what makes it ready for a store, how code has it then, and the words of the expression stack that it takes
 abbrev pub ready_code : Access → List Instr
 ready_code (InData o) = []
+ready_code (InFrame n o) = []
 ready_code OnTop = []
 ready_code (Behind o) = Adf o ∷ []
 
 abbrev pub readied : Access → Access
 readied (InData o) = InData o
+readied (InFrame n o) = InFrame n o
 readied OnTop = OnTop
 readied (Behind o) = OnTop
 
 abbrev pub held : Access → ℕ
 held (InData o) = 0
+held (InFrame n o) = 0
 held OnTop = 1
 held (Behind o) = 1
 
 -- the store to a place that is ready
 abbrev pub store_code : Access → Instr
 store_code (InData o) = Sgw o
+store_code (InFrame zero o) = Slw o
+store_code (InFrame (suc n) o) = Snw (suc n) o
 store_code OnTop = Sti
 store_code (Behind o) = Sti
 
 -- INC and DEC use it twice: what keeps it, the words that it then takes, and what brings the word that lies there below a number
 abbrev pub again_code : Access → List Instr
 again_code (InData o) = []
+again_code (InFrame n o) = []
 again_code OnTop = Dup ∷ []
 again_code (Behind o) = Dup ∷ []
 
 abbrev pub held_twice : Access → ℕ
 held_twice (InData o) = 0
+held_twice (InFrame n o) = 0
 held_twice OnTop = 2
 held_twice (Behind o) = 2
 
 abbrev pub under_code : Access → List Instr
 under_code (InData o) = Lgw o ∷ Swp ∷ []
+under_code (InFrame n o) = load_code (InFrame n o) ∷ Swp ∷ []
 under_code OnTop = Swp ∷ Ldi ∷ Swp ∷ []
 under_code (Behind o) = Swp ∷ Ldi ∷ Swp ∷ []
 
@@ -230,10 +256,10 @@ pub record ConstantRow (code : List ℕ) (k : Kind) (v : Scalar) (p q : ℕ) : T
   pub load : IsAt code p (Liw (scalar_word v)) q
 
 -- where a variable lies that has a kind, whose values have numbers
-pub record KnownRow (l : Layout) (x : ℕ) (k : Kind) : Type 0 where
+pub record KnownRow (l : Layout) (v : Named) (k : Kind) : Type 0 where
   pub offset : ℕ
-  pub at : slice_get l.offsets x ≡ Some offset
-  pub typed : slice_get l.scope.variables x ≡ Some (Word k)
+  pub at : offset_at l v ≡ Some offset
+  pub typed : variable_at l.scope v ≡ Some (Word k)
   pub base : is_ordinal (base_of k) ≡ true
 
 pub record OneRow (code : List ℕ) (o : OneOp) (k : Kind) (a : Expression) (value : Span) (p q : ℕ) : Type 0 where
@@ -306,11 +332,11 @@ pub record SpanRow (code : List ℕ) (s : Expression) (k : Kind) (a b : Expressi
   pub by : IsAt code end Spn q
 
 -- a variable takes no code
-pub record NamedRow (l : Layout) (x p q : ℕ) : Type 0 where
+pub record NamedRow (l : Layout) (v : Named) (p q : ℕ) : Type 0 where
   pub offset : ℕ
   pub shape : Shape
-  pub at : slice_get l.offsets x ≡ Some offset
-  pub typed : slice_get l.scope.variables x ≡ Some shape
+  pub at : offset_at l v ≡ Some offset
+  pub typed : variable_at l.scope v ≡ Some shape
   pub there : is_there shape ≡ true
   pub stays : p ≡ q
 
@@ -362,7 +388,7 @@ pub record TakenRow (l : Layout) (code : List ℕ) (d : Designator) (k : Kind) (
 
 abbrev mutual
   pub PlaceAt : Layout → List ℕ → Designator → Span
-  PlaceAt l code (Variable x) p q = NamedRow l x p q
+  PlaceAt l code (Variable v) p q = NamedRow l v p q
   PlaceAt l code (Held w) p q = HeldRow l code w p q
   PlaceAt l code (Field d i) p q = FieldRow l d i (PlaceAt l code d) p q
   PlaceAt l code (Element d k e) p q = ElementRow l code d k e (PlaceAt l code d) (ExpressionAt l code e) p q
@@ -667,7 +693,7 @@ pub record CallRow (l : Layout) (code : List ℕ) (x n p q : ℕ) : Type 0 where
   pub mark : IsAt code p (Mrk n) middle
   pub call : IsAt code middle (Cll x 0) q
 
--- the first word of a FOR or a WITH in the frame, where those around it take n words
+-- the first word of a FOR or a WITH in the frame, where the variables and those around it take n words
 abbrev pub loop_place : ℕ → ℕ
 loop_place n = 4 + n
 
@@ -677,19 +703,19 @@ loop_sign Cardinal = 0
 loop_sign Integer = 1
 
 -- each turn: its value is tested and stored in the variable, then comes the body, and the next turn
-pub record RoundRow (l : Layout) (code : List ℕ) (n x : ℕ) (k : Kind) (step : ℤ) (body : Span) (turn q : ℕ) : Type 0 where
-  pub known : KnownRow l x k
+pub record RoundRow (l : Layout) (code : List ℕ) (n : ℕ) (v : Named) (k : Kind) (step : ℤ) (body : Span) (turn q : ℕ) : Type 0 where
+  pub known : KnownRow l v k
   pub loaded : ℕ
   pub tested : ℕ
   pub start : ℕ
   pub end : ℕ
   pub room : loop_place n + 3 ≤ l.frame
   pub is_step : IsStep step
-  pub load : IsAt code turn (Llw (l.target (loop_place n))) loaded
+  pub load : IsAt code turn (Llw (framed (loop_place n))) loaded
   pub test : InstrsAt code (test_code k (base_of k)) loaded tested
-  pub store : IsAt code tested (Sgw known.offset) start
+  pub store : IsAt code tested (store_code (access_at v known.offset)) start
   pub here : body start end
-  pub next : IsAt code end (Frn (l.target (loop_place n)) (l.target turn)) q
+  pub next : IsAt code end (Frn (framed (loop_place n)) (l.target turn)) q
 
 -- a start that has no turn leaves the FOR
 pub record LeaveRow (l : Layout) (code : List ℕ) (p start q : ℕ) : Type 0 where
@@ -711,23 +737,23 @@ AlignAt l code false true p start q = InstrsAt code (Swp ∷ Rgc 0 32767 ∷ Swp
 AlignAt l code false false p start q = LeaveRow l code p start q
 
 -- both bounds stand on the expression stack, the start with a kind: the step, the beginning of the turns, and the turns
-pub record TurnsRow (l : Layout) (code : List ℕ) (n x : ℕ) (k j : Kind) (step : ℤ) (body : Span) (p q : ℕ) : Type 0 where
+pub record TurnsRow (l : Layout) (code : List ℕ) (n : ℕ) (v : Named) (k j : Kind) (step : ℤ) (body : Span) (p q : ℕ) : Type 0 where
   pub aligned : ℕ
   pub stepped : ℕ
   pub turn : ℕ
   pub align : AlignAt l code (covers (base_of k) j) (outside_turns (compared_as (base_of k)) step) p aligned q
   pub load : IsAt code aligned (Liw (word_of step)) stepped
-  pub enter : IsAt code stepped (Fri (l.target (loop_place n)) (loop_sign (compared_as (base_of k))) (l.target q)) turn
-  pub round : RoundRow l code n x k step body turn q
+  pub enter : IsAt code stepped (Fri (framed (loop_place n)) (loop_sign (compared_as (base_of k))) (l.target q)) turn
+  pub round : RoundRow l code n v k step body turn q
 
 -- both bounds and the turns: a start that may be stored in the variable, and a limit of the kind that the variable's was taken from
-pub record ForRow (l : Layout) (code : List ℕ) (n x : ℕ) (k : Kind) (a b : Expression) (step : ℤ) (body : Span) (p q : ℕ) : Type 0 where
+pub record ForRow (l : Layout) (code : List ℕ) (n : ℕ) (v : Named) (k : Kind) (a b : Expression) (step : ℤ) (body : Span) (p q : ℕ) : Type 0 where
   pub middle : ℕ
   pub last : ℕ
   pub takes : takes_value k (kind_of a) ≡ true
   pub first : WholeRow l code 0 a (kind_of a) p middle
   pub limit : WholeRow l code 1 b (base_of k) middle last
-  pub turns : TurnsRow l code n x k (kind_of a) step body last q
+  pub turns : TurnsRow l code n v k (kind_of a) step body last q
 
 -- the address of a record, which goes to a word of the frame, and the statements
 pub record InsideRow (l : Layout) (code : List ℕ) (n : ℕ) (d : Designator) (body : Span) (p q : ℕ) : Type 0 where
@@ -739,7 +765,7 @@ pub record InsideRow (l : Layout) (code : List ℕ) (n : ℕ) (d : Designator) (
   pub room : loop_place n + 1 ≤ l.frame
   pub here : PlaceAt l code d p found
   pub address : InstrsAt code (address_code (access_of l d)) found start
-  pub keep : IsAt code start (Slw (l.target (loop_place n))) kept
+  pub keep : IsAt code start (Slw (framed (loop_place n))) kept
   pub within : body kept q
 
 pub record ThenRow (first rest : Span) (p q : ℕ) : Type 0 where
@@ -747,7 +773,7 @@ pub record ThenRow (first rest : Span) (p q : ℕ) : Type 0 where
   pub here : first p middle
   pub then : rest middle q
 
--- Statements where the FORs and WITHs around them take n words of the frame, and the word of the place behind the LOOP around them, if
+-- Statements where the variables, and the FORs and WITHs around them take n words of the frame, and the word of the place behind the LOOP around them, if
 -- there is one.
 abbrev mutual
   pub StatementAt : Layout → List ℕ → ℕ → Option ℕ → Statement → Span
@@ -768,8 +794,8 @@ abbrev mutual
   StatementAt l code n exit Halt p q = IsAt code p (Trp 9) q
   StatementAt l code n exit Return p q = IsAt code p Rtn q
   StatementAt l code n exit (Call x i) p q = CallRow l code x i p q
-  StatementAt l code n exit (For x k a b step body) p q = ForRow l code n x k a b step (BodyAt l code (3 + n) exit body) p q
-  StatementAt l code n exit (Inside d body) p q = InsideRow l code n d (BodyAt (holding l (shape_of l.scope d) (l.target (loop_place n))) code (suc n) exit body) p q
+  StatementAt l code n exit (For v k a b step body) p q = ForRow l code n v k a b step (BodyAt l code (3 + n) exit body) p q
+  StatementAt l code n exit (Inside d body) p q = InsideRow l code n d (BodyAt (holding l (shape_of l.scope d) (framed (loop_place n))) code (suc n) exit body) p q
 
   -- one behind another
   pub BodyAt : Layout → List ℕ → ℕ → Option ℕ → Statements → Span
@@ -781,28 +807,28 @@ abbrev mutual
   ArmsAt l code n exit k (Else body) leave other table p t w = ElseRow l code leave other table (BodyAt l code n exit body) p w
   ArmsAt l code n exit k (Arm labels body rest) leave other table p t w = ArmRow l code k leave labels (BodyAt l code n exit body) (ArmsAt l code n exit k rest leave other table) p t w
 
--- a body or a procedure: its frame, its statements, and the return
-pub record FramedRow (l : Layout) (code : List ℕ) (ss : Statements) (p q : ℕ) : Type 0 where
+-- a body or a procedure with these variables: its frame, its statements, and the return
+pub record FramedRow (l : Layout) (code : List ℕ) (locals : List Shape) (ss : Statements) (p q : ℕ) : Type 0 where
   pub start : ℕ
   pub end : ℕ
-  pub enter : IsAt code p (Ent (l.target (frame_words ss))) start
-  pub body : BodyAt l code 0 None ss start end
+  pub enter : IsAt code p (Ent (framed (frame_words locals ss))) start
+  pub body : BodyAt l code (all_words locals) None ss start end
   pub leave : IsAt code end Rtn q
 
 -- it stands by itself: nothing before or behind it is one of its instructions
-abbrev pub StretchRow : Layout → List ℕ → Statements → Span
-StretchRow l code ss p q = FramedRow l (stretch p q code) ss p q
+abbrev pub StretchRow : Layout → List ℕ → List Shape → Statements → Span
+StretchRow l code locals ss p q = FramedRow l (stretch p q code) locals ss p q
 
 -- procedures from this number on, one behind another, and where each begins
 abbrev pub ProceduresAt : Layout → List ℕ → ℕ → List Procedure → List ℕ → Span
 ProceduresAt l code n [] [] p q = p ≡ q
-ProceduresAt l code n (its ∷ ps) (e ∷ es) p q = (e ≡ l.target p) × ThenRow (StretchRow (in_procedure l n its) code its.body) (ProceduresAt l code (suc n) ps es) p q
+ProceduresAt l code n (its ∷ ps) (e ∷ es) p q = (e ≡ l.target p) × ThenRow (StretchRow (in_procedure l n its) code its.locals its.body) (ProceduresAt l code (suc n) ps es) p q
 ProceduresAt l code n _ _ p q = ⊥
 
 -- code of a program module: its body, and behind it the procedures, by where each begins
 pub record TranslatesBy (l : Layout) (m : Resolved) (entries code : List ℕ) : Type 0 where
   pub middle : ℕ
-  pub body : StretchRow l code m.body 0 middle
+  pub body : StretchRow l code [] m.body 0 middle
   pub procedures : ProceduresAt l code 1 m.procedures entries middle (length code)
 
 -- the strings and the code of a program module, whose numbers are written as they are

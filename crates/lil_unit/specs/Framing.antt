@@ -1,26 +1,30 @@
 -- What the code means that the generator of modules adds.
-use Rattle.std.specs.Prelude.{◌≡◌, ℕ, ◌%◌, List, [], ◌∷◌, None}
-use Rattle.lil_resolved.specs.{Resolved.{Statements, Procedure, Resolved}, Sizes.frame_words}
+use Rattle.std.specs.Prelude.{◌≡◌, ℕ, suc, ◌%◌, List, [], ◌∷◌, Option, Some, None}
+use Rattle.lil_resolved.specs.{Kinds.{Shape, all_words}, Resolved.{Statements, Procedure, Resolved}, Sizes.frame_words}
 use Rattle.lil_asm.specs.declared.instr.Instr.TheVariants.{Ent, Rtn}
 use Rattle.lil_asm.specs.Stretches.{stretch}
-use Rattle.lil_table.specs.Rows.{IsAt}
-use Rattle.lil_labels.specs.Drafts.{Final, Meaning}
+use Rattle.lil_table.specs.Rows.{framed, IsAt}
+use Rattle.lil_labels.specs.{Tables.Tables, Drafts.{Final, Meaning}}
 use Rattle.lil_stmt.specs.Generating.{Body}
 
--- statements with the instructions that enter and leave them: ENT has the words of their frame, cut to 16 bits
-pub record FramedAt (ss : Statements) (x : Final) (p q : ℕ) : Type 0 where
+-- statements with such variables, and the instructions that enter and leave them: ENT has the words of their frame
+pub record FramedAt (locals : List Shape) (ss : Statements) (x : Final) (p q : ℕ) : Type 0 where
   pub start : ℕ
   pub end : ℕ
-  pub enter : IsAt x.code p (Ent (frame_words ss % 65536)) start
-  pub body : Body 0 None ss x start end
+  pub enter : IsAt x.code p (Ent (framed (frame_words locals ss))) start
+  pub body : Body (framed (all_words locals)) None ss x start end
   pub leave : IsAt x.code end Rtn q
 
-abbrev pub Framed : Statements → Meaning
-Framed ss x p q = FramedAt ss x p q
+abbrev pub Framed : List Shape → Statements → Meaning
+Framed locals ss x p q = FramedAt locals ss x p q
 
--- a stretch of a final code by itself, whatever names reach there, and however many words its frame has
-pub record IsStretch (x : Final) (p q : ℕ) (y : Final) : Type 0 where
-  pub tables : y.tables ≡ x.tables
+-- the tables in a procedure, by its number from 0 on, or in the body
+abbrev pub tables_in : Option ℕ → Tables → Tables
+tables_in own ts = record ts { own = own }
+
+-- a stretch of a final code by itself, in a procedure or in the body, whatever names reach there, and however many words its frame has
+pub record IsStretch (own : Option ℕ) (x : Final) (p q : ℕ) (y : Final) : Type 0 where
+  pub tables : y.tables ≡ tables_in own x.tables
   pub strings : y.layout.strings ≡ x.layout.strings
   pub target : y.layout.target ≡ x.layout.target
   pub word : y.word ≡ x.word
@@ -28,15 +32,15 @@ pub record IsStretch (x : Final) (p q : ℕ) (y : Final) : Type 0 where
   pub code : y.code ≡ stretch p q x.code
 
 -- a body or a procedure stands by itself
-abbrev pub Apart : Meaning → Meaning
-Apart T x p q = (y : Final) → IsStretch x p q y → T y p q
+abbrev pub Apart : Option ℕ → Meaning → Meaning
+Apart own T x p q = (y : Final) → IsStretch own x p q y → T y p q
 
--- procedures one behind another, and where each begins, cut to 16 bits
-abbrev pub EachFramed : List Procedure → List ℕ → Meaning
-EachFramed [] [] x p q = p ≡ q
-EachFramed (its ∷ ps) (e ∷ es) x p q = (m : ℕ) × (e ≡ p % 65536) × Apart (Framed its.body) x p m × EachFramed ps es x m q
-EachFramed _ _ x p q = ⊥
+-- procedures from this number on, one behind another, and where each begins, cut to 16 bits
+abbrev pub EachFramed : ℕ → List Procedure → List ℕ → Meaning
+EachFramed i [] [] x p q = p ≡ q
+EachFramed i (its ∷ ps) (e ∷ es) x p q = (m : ℕ) × (e ≡ p % 65536) × Apart (Some i) (Framed its.locals its.body) x p m × EachFramed (suc i) ps es x m q
+EachFramed i _ _ x p q = ⊥
 
 -- the body of a module, and its procedures behind it
 abbrev pub AllFramed : Resolved → List ℕ → Meaning
-AllFramed m entries x p q = (r : ℕ) × Apart (Framed m.body) x p r × EachFramed m.procedures entries x r q
+AllFramed m entries x p q = (r : ℕ) × Apart None (Framed [] m.body) x p r × EachFramed 0 m.procedures entries x r q

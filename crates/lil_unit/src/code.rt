@@ -1,10 +1,10 @@
 //! The code of a program module: its body, and behind it its procedures, each with its frame, its statements and the return.
 
-ghost use Rattle.std.specs.Prelude.{◌≡◌, ◌+◌, ◌<◌, ◌≤◌, ℕ, length, map, min, IfOk, OnOk, Err};
-ghost use Rattle.lil_resolved.specs.{Kinds.all_words, Views.{IsMeasured, statements_of, procedure_of, module_of}, Sound.IsSound, Sizes.{body_strings, procedures_strings, module_strings}};
+ghost use Rattle.std.specs.{Prelude.{◌≡◌, ◌+◌, ◌<◌, ◌≤◌, ℕ, List, length, map, min, None, IfOk, OnOk, Err}, List.All};
+ghost use Rattle.lil_resolved.specs.{Kinds.{Shape, all_words}, Views.{IsMeasured, IsMeasuredHeading, statements_of, heading_of, procedure_of, module_of}, Sound.IsSound, Sizes.{body_strings, procedures_strings, module_strings}};
 ghost use Rattle.lil_resolved.specs.Sizes as spec;
-ghost use Rattle.lil_table.specs.Rows.{Translates};
-ghost use Rattle.lil_labels.specs.Drafts.{Adds, empty};
+ghost use Rattle.lil_table.specs.Rows.{framed, Translates};
+ghost use Rattle.lil_labels.specs.Drafts.{Adds, empty, in_procedure};
 ghost use Rattle.lil_unit.specs.Framing.{Framed, EachFramed, AllFramed};
 
 use crate::GenStop;
@@ -34,15 +34,16 @@ fn counted(bytes: usize) -> u32
     u32::try_from(bytes).unwrap_or(u32::MAX)
 }
 
-/// Appends statements with the instructions that enter and leave them: the words of their frame, and the return.
-fn emit_framed(code: &mut CodeBuffer<'_>, body: &[RStmt]) -> Result<(), Memory>
-    ensures { OnOk result (Adds (body_strings (statements_of body.now)) code.old code.new (Framed (statements_of body.now))) }
+/// Appends statements whose variables take so many words of the frame, with the instructions that enter and leave them: the
+/// words of the frame, and the return.
+fn emit_framed(code: &mut CodeBuffer<'_>, locals_words: u16, body: &[RStmt]) -> Result<(), Memory>
+    ensures { OnOk result ((locals : List Shape) → locals_words ≡ framed (all_words locals) → Adds (body_strings (statements_of body.now)) code.old code.new (Framed locals (statements_of body.now))) }
 {
     let around = Around {
-        words: 0,
+        words: locals_words,
         exit: None,
     };
-    code.put(Instr::Ent(frame_words(body)))?;
+    code.put(Instr::Ent(frame_words(locals_words, body)))?;
     emit_body(code, body, around)?;
     code.put(Instr::Rtn)?;
     Ok(())
@@ -53,12 +54,14 @@ fn emit_procedures(
     code: &mut CodeBuffer<'_>,
     procedures: &[RProcedure],
 ) -> Result<Items<u16>, Memory>
-    ensures { IfOk result (λ entries. Adds (procedures_strings (map procedure_of procedures.now)) code.old code.new (EachFramed (map procedure_of procedures.now) entries)) }
+    requires { All (IsMeasuredHeading code.now.tables.shapes) (map heading_of procedures.now) }
+    ensures { IfOk result (λ entries. Adds (procedures_strings (map (procedure_of code.old.tables.shapes) procedures.now)) code.old (in_procedure code.old.tables.own code.new) (EachFramed 0 (map (procedure_of code.old.tables.shapes) procedures.now) entries)) }
 {
     let mut entries = Items::new(code.alloc());
-    for procedure in procedures {
+    for (i, procedure) in procedures.iter().enumerate() {
         entries.push((code.len() % 65_536) as u16)?;
-        emit_framed(code, procedure.body.as_slice())?;
+        code.enter(Some(i));
+        emit_framed(code, procedure.heading.words, procedure.body.as_slice())?;
     }
     Ok(entries)
 }
@@ -72,7 +75,8 @@ struct Drafted<'m> {
 
 /// The body of a program module, and its procedures behind it.
 fn emit_module<'m>(alloc: Global, m: &'m RModule) -> Result<Drafted<'m>, Memory>
-    ensures { IfOk result (λ made. Adds (module_strings (module_of m.now)) (empty m.now.shapes m.now.targets m.now.variables m.now.words) made.code (AllFramed (module_of m.now) made.entries)) }
+    requires { IsMeasured m.now }
+    ensures { IfOk result (λ made. Adds (module_strings (module_of m.now)) (empty m.now.shapes m.now.targets m.now.variables m.now.words (map heading_of m.now.procedures)) (in_procedure None made.code) (AllFramed (module_of m.now) made.entries)) }
 {
     let mut code = CodeBuffer::new(
         alloc,
@@ -80,8 +84,9 @@ fn emit_module<'m>(alloc: Global, m: &'m RModule) -> Result<Drafted<'m>, Memory>
         m.targets.as_slice(),
         m.variables.as_slice(),
         m.words,
+        m.procedures.as_slice(),
     );
-    emit_framed(&mut code, m.body.as_slice())?;
+    emit_framed(&mut code, 0, m.body.as_slice())?;
     let entries = emit_procedures(&mut code, m.procedures.as_slice())?;
     Ok(Drafted { code, entries })
 }

@@ -24,7 +24,7 @@ ran_from p strings entries code small t m is end steps f old new ran = subst (λ
 pub load-requires-clause-many : goal.load-requires-clause-many
 load-requires-clause-many g c =
     let m = c.args.m.now in
-    entries_many (module_of m) (module_strings (module_of m)) c.args.made.now.entries c.args.made.now.code c.requires.translates ∙ length-map m.procedures procedure_of
+    entries_many (module_of m) (module_strings (module_of m)) c.args.made.now.entries c.args.made.now.code c.requires.translates ∙ length-map m.procedures (procedure_of m.shapes)
 
 pub load-requires-clause-entries : goal.load-requires-clause-entries
 load-requires-clause-entries g c =

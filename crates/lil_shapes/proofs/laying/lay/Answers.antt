@@ -1,22 +1,6 @@
-use Rattle.std.proofs.Common.{◌≡◌, None, slice_get, refl, sym, ap, rules}
-use Rattle.std.specs.Option.{option_map}
-use Rattle.lil_resolved.specs.Kinds.{words}
-use Rattle.lil_shapes.specs.{Measured.shapes_in, Shaping.{within, there, lying}, ListLaws.none_at}
-use Rattle.lil_shapes.proofs.LayLaws.{lying_none, variable_over, variable_laid}
+use Rattle.std.proofs.Common.{rules, arith}
+use Rattle.lil_shapes.proofs.LayLaws.{laid_within}
 use Rattle.lil_shapes.proofs.laying.lay.Goals as goal
 
-pub returns-in_default : goal.returns-in_default
-returns-in_default c =
-    let s = c.args.types.now in
-    let v = c.one-item.result in
-    let gone : None ≡ option_map words (there (slice_get (shapes_in s) v.sort)) = search rules in
-    ap within (none_at (lying (shapes_in s)) c.args.of.now c.loop-one.one-index v c.loop-one-test.true (search rules) (lying_none s v gone))
-
-pub returns-in_default-behind : goal.returns-in_default-behind
-returns-in_default-behind c =
-    sym (variable_over c.args.types.now c.args.of.now c.loop-one.one-index c.one-item.result c.loop-one.variables c.loop-one.words c.in-Some.size c.loop-one-test.true (search rules) c.loop-one.invariant (search rules) (search rules))
-
-pub loop-one-preserved : goal.loop-one-preserved
-loop-one-preserved c =
-    variable_laid c.args.types.now c.args.of.now c.loop-one.one-index c.one-item.result c.loop-one.variables c.loop-one.words c.in-Some.size c.loop-one-test.true (search rules) c.loop-one.invariant (search rules)
-    c.push.new.self (record { name = c.in_ok-name.name; offset = c.loop-one.words; shape = c.one-item.result.sort }) c.in-Some-behind.next (search rules) (search rules) refl (search rules) (search rules)
+pub returns : goal.returns
+returns c = laid_within c.args.types.now c.args.of.now c.in-Some.laid (search rules) (omega (arith, c.if-laid-gt32000.false))

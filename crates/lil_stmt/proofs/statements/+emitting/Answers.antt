@@ -4,7 +4,8 @@ use Rattle.std.specs.List.{flat_map}
 use Rattle.std.proofs.lemmas.Int.{to_z-of_z}
 use Rattle.lil_base.specs.Words.{word_of}
 use Rattle.lil_resolved.specs.{declared.{resolved.{RStmt.RStmt, RArm.RArm, RGuard.RGuard}, shapes.RField.RField}, Kinds.{base_of, compared_as, covers, outside_turns}, Resolved.{Halt, Return, For, Statements, Empty, Then, kind_of}}
-use Rattle.lil_resolved.specs.{Views.{kind_view, variable_kind, expression_of, place_of, statement_of, statements_of, else_of, if_is, while_is, repeat_is, loop_is, for_is, inside_is, assign_is, copy_is, text_is, change_is, member_changed_is, new_is, allocate_is, request_is, exit_is, halt_is, return_is, call_is}, Sizes.{body_strings, arms_strings}}
+use Rattle.lil_resolved.specs.{Views.{named_view, kind_view, variable_kind, expression_of, place_of, statement_of, statements_of, else_of, if_is, while_is, repeat_is, loop_is, for_is, inside_is, assign_is, copy_is, text_is, change_is, member_changed_is, new_is, allocate_is, request_is, exit_is, halt_is, return_is, call_is}, Sizes.{body_strings, arms_strings}}
+use Rattle.lil_table.specs.Rows.{access_at}
 use Rattle.lil_labels.specs.{Drafts.{Draft, Each, Adds, Emits}, Emitting.{emits_as, with_ok, adds_as}}
 use Rattle.lil_expr.specs.Numbers.{number_word}
 use Rattle.lil_stmt.specs.Generating.{Body, Stated, StatementPart, statement_part, GuardPart, guard_part, paired, ArmPart, ArmBody, arm_part, ElsePart, ChoiceOf, Aligning}
@@ -58,16 +59,17 @@ emit_for-returns t c =
     let fits : (negsuc 32767 ≤ℤ c.from.result) × (c.from.result ≤ℤ pos 65535) = search rules in
     let stepped : c.word_of_number.result ≡ word_of c.args.step = number_word c.from.result c.word_of_number.result c.word_of_number.ensures.is fits ∙ ap word_of taken in
     let align = subst (λ (z : ℤ). Emits c.fresh.new.self c.emit_align.new.code (Aligning (covers (base_of k) j) (outside_turns (compared_as (base_of k)) z) c.in_ok-end.end)) same c.in_ok-emit_align.ensures in
-    let lies = ap (λ (f : RField). f.offset) c.variable-lies.ensures in
-    for_emitted c.args.around.words c.args.around.exit c.args.variable.number k (expression_of c.args.from.now) (expression_of c.args.to.now) c.args.step (statements_of c.args.body.now)
-    c.word_of_number.result c.loop_place-place.result c.loop_sign.result c.variable-lies.result.offset c.in_ok-end.end c.in_ok-turn.turn _ _ _ _ _ _ _ _ _ _ _ _ _ _ stepped c.loop_place-place.ensures c.loop_sign.ensures lies
+    let v = named_view c.args.variable.named in
+    let lies = c.variable_access.ensures ∙ ap (λ (f : RField). access_at v f.offset) c.variable-lies.ensures in
+    for_emitted c.args.around.words c.args.around.exit v k (expression_of c.args.from.now) (expression_of c.args.to.now) c.args.step (statements_of c.args.body.now)
+    c.word_of_number.result c.loop_place-place.result c.loop_sign.result c.saturating_add.result c.in_ok-end.end c.in_ok-turn.turn _ _ _ _ _ _ _ _ _ _ _ _ _ _ _ stepped c.loop_place-place.ensures c.loop_sign.ensures lies c.saturating_add.ensures
     c.in_ok-emit_expression.ensures c.in_ok-emit_expression-2.ensures c.in_ok-end.ensures.emits c.in_ok-end.ensures.makes align c.in_ok-put.ensures c.in_ok-jump.ensures c.in_ok-turn.ensures
-    c.in_ok-put-2.ensures c.in_ok-emit_turn_test.ensures c.in_ok-put-3.ensures c.in_ok-emit_body.ensures c.in_ok-jump-2.ensures
+    c.in_ok-put-2.ensures c.in_ok-emit_turn_test.ensures c.in_ok-emit_store.ensures c.in_ok-emit_body.ensures c.in_ok-jump-2.ensures
     c.here.ensures.ends
 
 pub emit_with-returns : goal.emit_with-returns
 emit_with-returns t c =
-    with_emitted c.args.around.words c.loop_place-word.result c.in_ok-shape.shape c.args.around.exit (place_of c.args.place.now) (statements_of c.args.body.now) _ _ _ _ _ _ c.loop_place-word.ensures
+    with_emitted c.args.around.words c.loop_place-word.result c.saturating_add.result c.in_ok-shape.shape c.args.around.exit (place_of c.args.place.now) (statements_of c.args.body.now) _ _ _ _ _ _ c.loop_place-word.ensures c.saturating_add.ensures
     c.in_ok-shape.ensures c.in_ok-put.ensures c.in_ok-hold.ensures c.in_ok-emit_body.ensures c.release.ensures
 
 pub emit_arms-loop-arm-preserved : goal.emit_arms-loop-arm-preserved
@@ -111,7 +113,7 @@ pub emit_statement-returns-in-For : goal.emit_statement-returns-in-For
 emit_statement-returns-in-For t c =
     let w = c.in-For in
     let small : SFits w16 w.step = search rules in
-    let form = λ (z : ℤ) (ss : List RStmt). Then (For w.variable.number (variable_kind w.variable) (expression_of w.from) (expression_of w.to) z (statements_of ss)) Empty in
+    let form = λ (z : ℤ) (ss : List RStmt). Then (For (named_view w.variable.named) (variable_kind w.variable) (expression_of w.from) (expression_of w.to) z (statements_of ss)) Empty in
     let is = ap statement_of w.is ∙ for_is w.variable w.from w.to w.step w.body ∙ ap (form w.step) (sym c.as_slice-in-For.ensures) ∙ ap (λ (z : ℤ). form z c.as_slice-in-For.result.now) (sym (to_z-of_z w16 w.step small)) in
     with_ok c.emit_for.result (one_emitted c.args.around.words c.args.around.exit _ _ _ _ is) c.emit_for.ensures
 

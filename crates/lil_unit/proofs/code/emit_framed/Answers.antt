@@ -1,6 +1,6 @@
 use Rattle.lil_resolved.specs.Views.{statements_of}
-use Rattle.lil_unit.proofs.Modules.{framed}
+use Rattle.lil_unit.proofs.Modules.{is_framed}
 use Rattle.lil_unit.proofs.code.emit_framed.Goals as goal
 
 pub returns : goal.returns
-returns c = framed (statements_of c.args.body.now) c.frame_words.result _ _ _ _ c.frame_words.ensures c.in_ok-put.ensures c.in_ok-emit_body.ensures c.in_ok-put-2.ensures
+returns c = is_framed (statements_of c.args.body.now) c.args.locals_words c.frame_words.result _ _ _ _ c.frame_words.ensures c.in_ok-put.ensures c.in_ok-emit_body.ensures c.in_ok-put-2.ensures

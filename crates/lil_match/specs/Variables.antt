@@ -1,0 +1,119 @@
+-- Where the variables are that items name: those of the module at hand, and those of the procedures at hand and around it.
+use Rattle.std.proofs.Common.{◌≡◌, ℕ, zero, suc, ◌+◌, ◌<◌, ◌≤◌, inl, inr, Bool, true, ◌||◌, Option, Some, None, List, [], ◌∷◌, ◌++◌, length, map, drop, refl, sym, ap, ◌∙◌, subst, arith, eq-eqb}
+use Rattle.std.specs.{Prelude.{slice_get, option_and_then, option_map}, List.list_any}
+use Rattle.std.proofs.lemmas.Option.{none-some, slice_get_within, slice_get-map}
+use Rattle.lil_resolved.specs.{Kinds.{Shape, Outline, is_there, words, procedure_by, locals_of, locals_at, offsets_from}, Resolved.{Named, OfModule, OfLevel, Resolved, variable_at, outline_of}}
+use Rattle.lil_meaning.specs.{Items.{Global, Local, Slot, Here, Place, Activation, Source, loaded_at}, Steps.{current, owner_of, procedures_of, own_slot, slots_of, slot_place, local_place, level_out, variable_place}}
+use Rattle.lil_mcode.specs.Table.{Module, State}
+use Rattle.lil_table.specs.Rows.{access_at, offset_at, framed}
+use Rattle.lil_match.specs.{Homes.Home, Waits.{Frame, Stack, frames_of, locals_in, is_of, Setting, HasPlace}, Known.{or_later}, Goes.{Among, IsKnown, EachKnown, HasLocals, EachLocal, Shared}, Climbs.{Climbs, climbs, first_own}, Kept.first_words}
+
+-- ---- frames
+known_among : (library : List Resolved) (loaded : List ℕ) (table : List Module) (acts : List Activation) (h : Home) (fs : List Frame) (g : Frame) → EachKnown library loaded table acts h fs → Among g fs → IsKnown library loaded table acts h g
+known_among library loaded table acts h [] g e m = absurd m
+known_among library loaded table acts h (f ∷ fs) g e (inl same) = subst (IsKnown library loaded table acts h) (sym same) e.0
+known_among library loaded table acts h (f ∷ fs) g e (inr m) = known_among library loaded table acts h fs g e.1 m
+
+local_among : (acts : List Activation) (h : Home) (fs bs : List Frame) (g : Frame) → EachLocal acts h (fs ++ bs) → Among g fs → HasLocals acts h g
+local_among acts h [] bs g e m = absurd m
+local_among acts h (f ∷ fs) bs g e (inl same) = subst (HasLocals acts h) (sym same) e.0
+local_among acts h (f ∷ fs) bs g e (inr m) = local_among acts h fs bs g e.2 m
+
+first_of : (a b : Bool) → a ≡ true → (a || b) ≡ true
+first_of true b e = refl
+first_of a b e = cc
+
+seen_among : (fs bs : List Frame) (g : Frame) → Among g fs → list_any (is_of g.activation) (fs ++ bs) ≡ true
+seen_among [] bs g m = absurd m
+seen_among (f ∷ fs) bs g (inl same) = first_of (is_of g.activation f) (list_any (is_of g.activation) (fs ++ bs)) (eq-eqb f.activation g.activation (ap (λ (y : Frame). y.activation) (sym same)))
+seen_among (f ∷ fs) bs g (inr m) = or_later (is_of g.activation f) (list_any (is_of g.activation) (fs ++ bs)) (seen_among fs bs g m)
+
+-- ---- the variables of a procedure around are those of its frame
+dropped : (xs : List ℕ) (n : ℕ) → slice_get (drop n xs) 0 ≡ slice_get xs n
+dropped [] zero = refl
+dropped [] (suc n) = refl
+dropped (x ∷ xs) zero = refl
+dropped (x ∷ xs) (suc n) = dropped xs n
+
+locals_out : (f to : Frame) (n : ℕ) → to.layout.scope.procedures ≡ f.layout.scope.procedures → to.layout.scope.chain ≡ drop n f.layout.scope.chain → locals_in to ≡ locals_at f.layout.scope n
+locals_out f to n procedures chain =
+    ap (λ (ps : List Outline). locals_of (option_and_then (procedure_by ps) (slice_get to.layout.scope.chain 0))) procedures
+    ∙ ap (λ (o : Option ℕ). locals_of (option_and_then (procedure_by f.layout.scope.procedures) o)) (ap (λ (xs : List ℕ). slice_get xs 0) chain ∙ dropped f.layout.scope.chain n)
+
+-- one that is there is of a procedure at hand
+level_low : (ps : List Outline) (chain : List ℕ) (n x : ℕ) (t : Shape) → slice_get (locals_of (option_and_then (procedure_by ps) (slice_get chain n))) x ≡ Some t → n < length chain
+level_low ps chain n x t typed = by (slice_get chain n) refl typed
+  where
+    by : (o : Option ℕ) → slice_get chain n ≡ o → slice_get (locals_of (option_and_then (procedure_by ps) o)) x ≡ Some t → n < length chain
+    by None e typed = absurd (none-some t typed)
+    by (Some p) e typed = slice_get_within chain n p e
+
+slot_here : (ts : List Shape) (x : ℕ) (t : Shape) → slice_get ts x ≡ Some t → slice_get (map own_slot ts) x ≡ Some Here
+slot_here ts x t e = slice_get-map own_slot ts x ∙ ap (option_map own_slot) e
+
+framed_low : (n : ℕ) → n ≤ 65535 → framed n ≡ n
+framed_low n h = omega (arith, h)
+
+module _ (ctx : Setting) where
+  open ctx use {home as h, stack as st}
+
+  -- a word of the running frame, as instructions say it
+  pub framed_here : (s : Source) (m : State) → Shared ctx s m → (n : ℕ) → n ≤ ctx.stack.frame.layout.frame → framed n ≡ n
+  framed_here s m shared n less =
+      let words = first_words h.owner st.base m.top st.frame st.callers shared.standing.stands in
+      framed_low n (omega (arith, less, words.below, shared.standing.low, shared.standing.high))
+
+  -- the frame so many levels out
+  pub out_of : (s : Source) (m : State) → Shared ctx s m → (i : ℕ) → i < length ctx.stack.frame.layout.scope.chain → Climbs ctx.activations m.store ctx.stack.frame ctx.stack.callers i
+  out_of s m shared i less =
+      climbs h.shadow ctx.activations m.store st.frame st.callers shared.standing.links
+      (λ g among. shared.mem.kept g.at (first_own h.owner st.base m.top st.frame st.callers shared.standing.stands g among)) i less
+
+  -- a variable has a place, which code has where the layout says
+  pub record VariableHere (s : Source) (v : Named) (offset : ℕ) (t : Shape) (stack : List ℕ) : Type 0 where
+    pub place : Place
+    pub found : variable_place s v ≡ Some place
+    pub has : HasPlace ctx (access_at v offset) place t stack stack
+
+  module _ (s : Source) (m : State) (shared : Shared ctx s m) (close : current s.items ≡ ctx.stack.frame.activation) (offset : ℕ) (t : Shape) (there : is_there t ≡ true) (stack : List ℕ) where
+    of_level : (n x : ℕ) → slice_get (offsets_from 4 (locals_at ctx.stack.frame.layout.scope n)) x ≡ Some offset → slice_get (locals_at ctx.stack.frame.layout.scope n) x ≡ Some t → VariableHere s (OfLevel n x) offset t stack
+    of_level n x at typed =
+        let f = ctx.stack.frame in
+        let up = out_of s m shared n (level_low f.layout.scope.procedures f.layout.scope.chain n x t typed) in
+        let known = known_among ctx.library ctx.loaded ctx.table ctx.activations h (f ∷ st.callers) up.to (shared.standing.known, shared.standing.callers) up.among in
+        let same : locals_in up.to ≡ locals_at f.layout.scope n =
+        locals_out f up.to n (known.procedures ∙ ap (λ (i : ℕ). map outline_of (procedures_of (loaded_at ctx.library ctx.loaded i))) up.owner ∙ sym shared.standing.known.procedures) up.chain in
+        let its = local_among ctx.activations h (f ∷ st.callers) st.bodies up.to shared.standing.locals up.among in
+        let here = ap (λ (ts : List Shape). slice_get ts x) same ∙ typed in
+        let v = its.variables x offset t (ap (λ (ts : List Shape). slice_get (offsets_from 4 ts) x) same ∙ at) here there in
+        let low = shared.mem.inside (Local up.to.activation x) in
+        let exact : framed offset ≡ offset = framed_low offset (omega (arith, low, v.1)) in
+        record {
+          place = record { root = Local up.to.activation x; path = [] };
+          found = ap (λ (a : ℕ). local_place s.activations (level_out s.activations a n) x) close
+              ∙ ap (λ (acts : List Activation). local_place acts (level_out acts f.activation n) x) shared.activations_are
+              ∙ ap (λ (a : Option ℕ). local_place ctx.activations a x) up.level
+              ∙ ap (λ (o : Option Activation). slot_place up.to.activation x (slice_get (slots_of o) x)) its.runs
+              ∙ ap (slot_place up.to.activation x) (ap (λ (ss : List Slot). slice_get ss x) its.slots ∙ slot_here (locals_in up.to) x t here);
+          has = record {
+            seen = seen_among (f ∷ st.callers) st.bodies up.to up.among;
+            living = v.0;
+            there = there;
+            at = (up.to.at, up.shown, omega (arith, v.1, exact), refl);
+          };
+        }
+
+    pub variable_here : (v : Named) → offset_at ctx.stack.frame.layout v ≡ Some offset → variable_at ctx.stack.frame.layout.scope v ≡ Some t → VariableHere s v offset t stack
+    variable_here (OfLevel n x) at typed = of_level n x at typed
+    variable_here (OfModule x) at typed =
+        let here : owner_of (slice_get s.activations (current s.items)) ≡ st.frame.number =
+        ap (λ (a : ℕ). owner_of (slice_get s.activations a)) close
+        ∙ ap (λ (l : List Activation). owner_of (slice_get l st.frame.activation)) shared.activations_are
+        ∙ shared.standing.known.owner in
+        let v = shared.standing.known.variables x offset t at typed in
+        let own : Place = record { root = Global st.frame.number x; path = [] } in
+        record {
+          place = own;
+          found = ap (λ (n : ℕ). Some (record { root = Global n x; path = [] })) here;
+          has = record { seen = refl; living = v.0; there = there; at = (omega (arith, v.1), refl) };
+        }

@@ -1,7 +1,0 @@
-use Rattle.std.proofs.Common.{take}
-use Rattle.lil_shapes.specs.Measured.{IsLaid}
-use Rattle.lil_shapes.proofs.LayLaws.{laid_with}
-use Rattle.lil_shapes.proofs.laying.lay.Given as goal
-
-abbrev pub invariant-loop-one : goal.invariant-loop-one
-invariant-loop-one l = IsLaid l.types (take l.one-index l.of) (laid_with l.variables l.words)
