@@ -3,13 +3,13 @@ use Rattle.std.specs.Prelude.{ℕ, ◌+◌, ◌==◌, nat_lt, Bool, true, false,
 use Rattle.lil_base.specs.declared.fault.{Place.Place, FaultKind.TheVariants.{ArgCount, NotCallable, ExprDeep}}
 use Rattle.lil_types.specs.Types.{Table}
 use Rattle.lil_declared.specs.declared.standard.Resident.{Resident}
-use Rattle.lil_resolved.specs.declared.resolved.RStmt.{RStmt}
+use Rattle.lil_resolved.specs.declared.resolved.{RArgument.RArgument, RStmt.RStmt}
 use Rattle.lil_report.specs.Told.{Row, row, after}
 use Rattle.lil_scope.specs.declared.thing.Kind.TheVariants as kind
 use Rattle.lil_kinds.specs.{Forms.{is_routine, arity, result}, declared.found.Found.Found}
 use Rattle.lil_kinds.specs.declared.found.Form.TheVariants as form
 use Rattle.lil_kinds.specs.declared.found.Standing.TheVariants as standing
-use Rattle.lil_forms.specs.{Statements.called, declared.arguments.Handed.Handed}
+use Rattle.lil_forms.specs.{Statements.called}
 use Rattle.lil_call.specs.{declared.{call.{Callee.Callee, Argument.Argument}, passing.Passed.Passed, routines.{Invoked.Invoked, Target.Target}}, Passing.{all_have_values, nothing_passed, arguments_mean}, Procedures.{agrees, function_mean, procedure_mean}}
 use Rattle.lil_call.specs.declared.call.Callee.TheVariants as callee
 use Rattle.lil_call.specs.declared.routines.Target.TheVariants as target
@@ -58,13 +58,14 @@ abbrev pub routine_value : Table → Place → Invoked → List Argument → Opt
 routine_value t p v xs = after (routine_mean t p true v xs) (λ s. (call_found p (result t v.sort) s, []))
 
 -- a procedure of the module, by its number, and how many procedures out it is declared; the code has its number from 1, and both as bytes
-abbrev pub own_call : ℕ → ℕ → Option RStmt
-own_call n levels = if nat_lt n 255 && nat_lt levels 256 then Some (statement.Call (n + 1) levels) else None
+abbrev pub own_call : ℕ → ℕ → Option (List RArgument) → Option RStmt
+own_call n levels None = None
+own_call n levels (Some xs) = if nat_lt n 255 && nat_lt levels 256 then Some (statement.Call (n + 1) levels xs) else None
 
 -- no code is made of a call of a variable's value
-abbrev pub call_of : Target → Handed → Option RStmt
+abbrev pub call_of : Target → Option (List RArgument) → Option RStmt
 call_of (target.Resident r) h = called r h
-call_of (target.Own n levels) h = own_call n levels
+call_of (target.Own n levels) h = own_call n levels h
 call_of target.Value h = None
 
 abbrev pub call_statement : Invoked → Option Passed → Option RStmt

@@ -4,19 +4,20 @@ ghost use Rattle.lil_call.specs.Passing as spec;
 
 use crate::call::Argument;
 use lil_base::{FaultKind, Items, Memory, beside};
-use lil_forms::{Handed, handed_over, nothing_handed};
+use lil_forms::{handed_over, nothing_handed};
 use lil_kinds::{ArrayParts, Found, Standing, array_parts, assignable, misses, parameter};
 use lil_report::Report;
+use lil_resolved::RArgument;
 use lil_scope::Kind;
 use lil_types::{CHAR, Parameter, TypeId, TypeTable, same};
 use std::alloc::Global;
 
-/// The arguments so far: the parameters that have got one, what was handed over to them, the words that lie below the next one,
-/// the greatest depth, and whether the parameters take them.
+/// The arguments so far: the parameters that have got one, what was handed over to them where all of it has code, the words that
+/// lie below the next one, the greatest depth, and whether the parameters take them.
 #[derive(Drop)]
 pub struct Passed {
     pub parameters: Items<Parameter>,
-    pub handed: Handed,
+    pub handed: Option<Items<RArgument>>,
     pub words: usize,
     pub depth: usize,
     pub is_right: bool,

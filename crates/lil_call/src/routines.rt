@@ -7,10 +7,10 @@ use crate::functions::agrees;
 use crate::passing::{Passed, nothing_passed, pass_all};
 use lil_base::{FaultKind, Items, Memory, Place};
 use lil_declared::Resident;
-use lil_forms::{Handed, called};
+use lil_forms::called;
 use lil_kinds::{Form, Found, Standing, arity, is_routine, result};
 use lil_report::Report;
-use lil_resolved::RStmt;
+use lil_resolved::{RArgument, RStmt};
 use lil_scope::Kind;
 use lil_types::{TypeId, TypeTable};
 use std::alloc::Global;
@@ -137,27 +137,28 @@ pub(crate) fn value_call(
     Ok(call_found(first, sort, s))
 }
 
-/// A call of one of the module's procedures, whose number from 1 and levels are bytes.
-fn own_call(number: usize, levels: usize) -> Option<RStmt>
-    ensures { result ≡ spec.own_call number levels }
+/// A call of one of the module's procedures, whose number from 1 and levels are bytes, where its arguments have code.
+fn own_call(number: usize, levels: usize, given: Option<Items<RArgument>>) -> Option<RStmt>
+    ensures { result ≡ spec.own_call number levels given }
 {
+    let Some(given) = given else {
+        return None;
+    };
     if number < 255 && levels < 256 {
-        Some(RStmt::Call((number + 1) as u8, levels as u8))
+        Some(RStmt::Call((number + 1) as u8, levels as u8, given))
     } else {
+        drop(given);
         None
     }
 }
 
 /// No code is made of a call of a variable's value.
-fn call_of(target: Target, handed: Handed) -> Option<RStmt>
+fn call_of(target: Target, handed: Option<Items<RArgument>>) -> Option<RStmt>
     ensures { result ≡ spec.call_of target handed }
 {
     match target {
         Target::Resident(resident) => called(resident, handed),
-        Target::Own(number, levels) => {
-            drop(handed);
-            own_call(number, levels)
-        }
+        Target::Own(number, levels) => own_call(number, levels, handed),
         Target::Value => {
             drop(handed);
             None

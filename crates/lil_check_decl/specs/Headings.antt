@@ -1,15 +1,17 @@
 -- Variables and parameters, and the headings of procedures.
-use Rattle.std.specs.Prelude.{ℕ, ◌+◌, nat_le, length, is_some, not, ◌||◌, Bool, true, false, List, [], ◌∷◌, ◌++◌, Option, Some, None}
+use Rattle.std.specs.Prelude.{ℕ, ◌+◌, nat_le, length, is_some, not, ◌&&◌, ◌||◌, Bool, true, false, List, [], ◌∷◌, ◌++◌, Option, Some, None}
+use Rattle.std.specs.List.{list_any}
 use Rattle.lil_base.specs.declared.fault.FaultKind.TheVariants.{TooManyProcs}
-use Rattle.lil_text.specs.declared.tree.Ident.{Ident}
+use Rattle.lil_text.specs.declared.tree.{Ident.Ident, Qualident.Qualident}
 use Rattle.lil_language.specs.declared.unit.{Section.Section, Heading.Heading}
+use Rattle.lil_types.specs.{Types.Table, declared.table.Parameter.Parameter}
 use Rattle.lil_declared.specs.declared.declared.Mode.{Mode, TheVariants.{Plain, Value, Place, OpenValue, OpenPlace}}
 use Rattle.lil_declared.specs.declared.declared.{RProc.RProc, RVar.RVar}
 use Rattle.lil_report.specs.Told.{Row, row, after, walk}
 use Rattle.lil_scope.specs.{declared.{thing.Thing.Thing, env.Env.Env}, Names.{bind, bind_at, begun, with_local, variables_of, level, visible, chain}}
 use Rattle.lil_scope.specs.declared.thing.Thing.TheVariants as t
 use Rattle.lil_check_value.specs.Looks.{type_named, not_built}
-use Rattle.lil_check_type.specs.{declared.routines.Parameters.Parameters, Made.{Made, form_node}, Records.{sort_or, no_parameters, with_parameter, result_means, procedure_form}}
+use Rattle.lil_check_type.specs.{declared.routines.Parameters.Parameters, Made.{Made, form_node}, Records.{is_structure, sort_or, no_parameters, with_parameter, result_means, procedure_form}}
 use Rattle.lil_check_decl.specs.declared.home.Home.{Home}
 
 -- ---- variables, by their number among those of their owner
@@ -85,13 +87,13 @@ sections_mean e h = walk (section_step (home_at e (length e.scopes.blocks))) (be
 abbrev pub heading_type : Headed → Heading → Made × List Row
 heading_type q h = after (result_means q.0 h.result) (λ n. form_node q.0 h.place (procedure_form q.1 n))
 
-abbrev pub is_empty : {A : Type 0} → List A → Bool
-is_empty [] = true
-is_empty (x ∷ xs) = false
+-- no code is made of open arrays, and of values of arrays and records
+abbrev pub is_unbuilt : Table → Parameter → Bool
+is_unbuilt t p = p.open_array || (not p.by_place && is_structure t p.sort)
 
--- 90 NotBuilt: it has parameters, or a result
-abbrev pub has_more : Heading → Bool
-has_more h = not (is_empty h.sections) || is_some h.result
+-- 90 NotBuilt: it has such a parameter, or a result
+abbrev pub has_more : Table → List Parameter → Option Qualident → Bool
+has_more t ps r = list_any (is_unbuilt t) ps || is_some r
 
 abbrev pub heading_means : Env → Heading → Env × List Row
-heading_means e h = not_built (has_more h) h.place (after (sections_mean e h) (λ q. after (heading_type q h) (named_means (length e.scopes.blocks) h.name)))
+heading_means e h = after (sections_mean e h) (λ q. not_built (has_more q.0.types q.1.list h.result) h.place (after (heading_type q h) (named_means (length e.scopes.blocks) h.name)))

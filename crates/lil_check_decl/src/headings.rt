@@ -1,4 +1,5 @@
 ghost use Rattle.std.specs.Prelude.{◌≡◌, length, IfOk};
+ghost use Rattle.std.specs.List.{list_any};
 ghost use Rattle.lil_report.specs.Told.{Said, walk};
 ghost use Rattle.lil_scope.specs.Names as names;
 ghost use Rattle.lil_check_type.specs.Records.{no_parameters};
@@ -6,14 +7,16 @@ ghost use Rattle.lil_check_decl.specs.Headings as spec;
 
 use crate::home::Home;
 use lil_base::{FaultKind, Memory};
-use lil_check_type::{Parameters, add_form, add_parameter, procedure_form, result_type, sort_or};
+use lil_check_type::{
+    Parameters, add_form, add_parameter, is_structure, procedure_form, result_type, sort_or,
+};
 use lil_check_value::type_named;
 use lil_declared::{Mode, RProc, RVar};
 use lil_language::{Heading, Section};
 use lil_report::Report;
 use lil_scope::{Env, Routine, Thing, Variable, bind, bind_at, chain, visible};
 use lil_text::Ident;
-use lil_types::TypeId;
+use lil_types::{Parameter, TypeId, TypeTable};
 use std::alloc::Global;
 
 /// How many variables an owner has: a procedure, or the module.
@@ -312,10 +315,23 @@ fn named(
     numbered(alloc, env, report, block, sort, of)
 }
 
-fn has_more(of: &Heading) -> bool
-    ensures { result ≡ spec.has_more of.now }
+fn is_unbuilt(t: &TypeTable, of: Parameter) -> bool
+    ensures { result ≡ spec.is_unbuilt t.now of }
 {
-    !of.sections.is_empty() || of.result.is_some()
+    of.open_array || (!of.by_place && is_structure(t, of.sort))
+}
+
+fn any_unbuilt(t: &TypeTable, parameters: &[Parameter]) -> bool
+    ensures { result ≡ list_any (spec.is_unbuilt t.now) parameters.now }
+{
+    parameters.iter().any(|one| is_unbuilt(t, *one))
+}
+
+/// Whether a heading has what isn't built: an open array, an array or a record by value, or a result.
+fn has_more(t: &TypeTable, parameters: &[Parameter], of: &Heading) -> bool
+    ensures { result ≡ spec.has_more t.now parameters.now of.now.result }
+{
+    any_unbuilt(t, parameters) || of.result.is_some()
 }
 
 /// The heading of a procedure.
@@ -328,10 +344,11 @@ pub fn heading(
 ) -> Result<(), Memory>
     ensures { IfOk result (λ o. Said (spec.heading_means env.old of.now) report.old env.new report.new) }
 {
-    report.note(has_more(of), of.place, FaultKind::NotBuilt);
     let block = begin(alloc, env)?;
     let home = home_at(env, block);
     let parameters = sections(alloc, env, report, home, of.sections.as_slice())?;
+    let more = has_more(&env.types, parameters.list.as_slice(), of);
+    report.note(more, of.place, FaultKind::NotBuilt);
     let sort = heading_type(env, report, parameters, of)?;
     named(alloc, env, report, block, &of.name, sort)
 }

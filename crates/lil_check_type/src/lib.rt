@@ -16,6 +16,6 @@ pub use labels::label;
 pub use made::{add_form, add_type};
 pub use named::NamedType;
 pub use records::sort_or;
-pub use routines::{Parameters, add_parameter, procedure_form, result_type};
+pub use routines::{Parameters, add_parameter, is_structure, procedure_form, result_type};
 pub use sorts::sort;
 pub use spans::Spans;

@@ -81,7 +81,8 @@ fn formals(
     Ok(parameters)
 }
 
-fn is_structure(t: &TypeTable, n: TypeId) -> bool
+/// Whether a type is an array or a record.
+pub fn is_structure(t: &TypeTable, n: TypeId) -> bool
     ensures { result ≡ spec.is_structure t.now n }
 {
     is_record(t, n) || array_parts(t, n).is_some()

@@ -10,9 +10,11 @@ ghost use Rattle.lil_check_unit.specs.Units.{IsThere};
 use lil_base::{Items, Memory, Name};
 use lil_check_stmt::Stated;
 use lil_declared::{RProc, RVar};
+use lil_kinds::arity;
 use lil_resolved::{RHeading, RModule, RProcedure, RStmt};
 use lil_scope::{Env, Locals};
 use lil_shapes::{Laid, Shaped, all_shapes, all_targets, lay, lay_locals};
+use lil_types::TypeTable;
 use std::alloc::Global;
 
 /// The numbers of procedures from 1, where all are bytes.
@@ -29,16 +31,17 @@ fn bytes(alloc: Global, of: &[usize]) -> Result<Option<Items<u8>>, Memory>
     Ok(Some(numbers))
 }
 
-/// A procedure with its variables and its body, where it has code.
+/// A procedure with its parameters, its variables and its body, where it has code.
 fn procedure(
     alloc: Global,
+    table: &TypeTable,
     types: &Shaped,
     of: &RProc,
     variables: &[RVar],
     body: Option<Items<RStmt>>,
 ) -> Result<Option<RProcedure>, Memory>
     requires { IsShaped types.now }
-    ensures means { IfOk result (λ o. option_map (procedure_of types.now.shapes) o ≡ spec.made_of of.now (all_some (map (lying (shapes_in types.now)) variables.now)) body) }
+    ensures means { IfOk result (λ o. option_map (procedure_of types.now.shapes) o ≡ spec.made_of (spec.parameters_by table.now of.now) of.now (all_some (map (lying (shapes_in types.now)) variables.now)) body) }
     ensures body { IfOk result (λ o. IfSome o (λ p. body_of p ≡ body)) }
     ensures measured { IfOk result (λ o. IfSome o (λ p. IsMeasuredHeading types.now.shapes p.heading)) }
 {
@@ -56,6 +59,7 @@ fn procedure(
         name,
         around,
         locals: laid.variables,
+        parameters: arity(table, of.sort),
         words: laid.words,
     };
     Ok(Some(RProcedure { heading, body }))
@@ -64,13 +68,14 @@ fn procedure(
 /// Procedures with their variables and their bodies, where all have code.
 fn procedures(
     alloc: Global,
+    table: &TypeTable,
     types: &Shaped,
     of: &[RProc],
     locals: &Locals,
     bodies: Items<Option<Items<RStmt>>>,
 ) -> Result<Option<Items<RProcedure>>, Memory>
     requires { IsShaped types.now }
-    ensures means { IfOk result (λ o. option_map (map (procedure_of types.now.shapes)) o ≡ spec.procedures_from (spec.locals_laid (shapes_in types.now) locals.now) 0 of.now bodies) }
+    ensures means { IfOk result (λ o. option_map (map (procedure_of types.now.shapes)) o ≡ spec.procedures_from (spec.parameters_by table.now) (spec.locals_laid (shapes_in types.now) locals.now) 0 of.now bodies) }
     ensures bodies { IfOk result (λ o. IfSome o (λ ps. map body_of ps ≡ bodies)) }
     ensures measured { IfOk result (λ o. IfSome o (λ ps. All (IsMeasuredHeading types.now.shapes) (map heading_of ps))) }
 {
@@ -80,7 +85,7 @@ fn procedures(
         let Some(body) = left.take_first() else {
             return Ok(None);
         };
-        let Some(procedure) = procedure(alloc, types, one, locals.of(number), body)? else {
+        let Some(procedure) = procedure(alloc, table, types, one, locals.of(number), body)? else {
             return Ok(None);
         };
         made.push(procedure)?;
@@ -146,7 +151,8 @@ pub(crate) fn assembled(
         unreachable!()
     };
     let of = declared.procedures.as_slice();
-    let Some(procedures) = procedures(alloc, &types, of, &declared.locals, bodies)? else {
+    let table = &declared.types;
+    let Some(procedures) = procedures(alloc, table, &types, of, &declared.locals, bodies)? else {
         unreachable!()
     };
     let Some(laid) = lay(alloc, &types, declared.variables.as_slice())? else {

@@ -3,10 +3,10 @@ use Rattle.std.proofs.Common.{◌≡◌, ℕ, ◌+◌, ◌<◌, ◌≤◌, true,
 use Rattle.std.specs.Prelude.{slice_get}
 use Rattle.std.proofs.lemmas.List.{take_all, map-append}
 use Rattle.lil_base.specs.Words.{word_of}
-use Rattle.lil_resolved.specs.{declared.{resolved.{RPlace.{RPlace, out-RPlace}, RSelector.RSelector}, shapes.{RField.RField, RElements.RElements}}, Kinds.{Kind, least, numbers, Shape, words, is_there, part_at, offset, shape_by, shape_at, element_of}, Resolved.{Named, variable_at, Designator, Variable, Held, Field, Element, Follow, Expression, kind_of, shape_of}}
-use Rattle.lil_resolved.specs.{Sound.IsSoundPlace, Views.{root_view, selected, selector_of, place_of, shapes_of, place_is}}
+use Rattle.lil_resolved.specs.{declared.{resolved.{RPlace.{RPlace, out-RPlace}, RSelector.RSelector}, shapes.{RField.RField, RElements.RElements}}, Kinds.{Kind, least, numbers, Shape, Address, led_to, words, is_there, part_at, offset, shape_by, shape_at, element_of}, Resolved.{Named, OfLevel, variable_at, Designator, Variable, Handed, Held, Field, Element, Follow, Expression, kind_of, shape_of}}
+use Rattle.lil_resolved.specs.{Plain.{by_value, by_place, parameter_variable}, Sound.IsSoundPlace, Views.{root_view, selected, selector_of, place_of, shapes_of, place_is}}
 use Rattle.lil_asm.specs.declared.instr.Instr.TheVariants.{Llw, Ixc, Nlt}
-use Rattle.lil_table.specs.Rows.{cut, access_at, IsAt, InstrsAt, Access, InData, OnTop, further, offset_in, address_code, load_code, test_code}
+use Rattle.lil_table.specs.Rows.{cut, access_at, IsAt, InstrsAt, Access, OnTop, further, offset_in, address_code, load_code, test_code}
 use Rattle.lil_labels.specs.{Entries.small_at, declared.buffer.HeldRecord.HeldRecord, Tables.{Tables, declared_at, target_by, variable_by, part_by, elements_by, held_by}, Drafts.{Draft, Final, Emits, Doing, DoingAll}, Emitting.{emits_none, emits_then, emits_as, emits_tied, take_next}}
 use Rattle.lil_expr.specs.{Accesses.words_in, Generating.{Value, ReachedAt, Found, Selecting}, Variables.{standing, kept, pointed}}
 use Rattle.lil_expr.proofs.Tables.{whole_there, array_there, row_is, part_within, PartIs, part_is, ElementsAre, elements_are}
@@ -28,10 +28,28 @@ variable_found v f d is =
     record {
       place = record { offset = s.offset; shape = known.0; at = s.at; typed = known.1; there = known.2; stays = t.0 };
       access = ap (access_at v) lies ∙ s.access ∙ ap (λ (o : Option ℕ). access_at v (offset_in o)) (sym s.at);
-      shape = ap (shape_at (shapes_of x.tables.shapes)) number ∙ s.shape ∙ ap shape_by (sym known.1);
+      shape = ap (shape_at (shapes_of x.tables.shapes)) number ∙ by_value x.tables.shapes s.variable (ap is_there s.shape ∙ known.2) ∙ s.shape ∙ ap shape_by (sym known.1);
       within = omega (arith, s.within, ap (λ (n : ℕ). words_in (access_at v n)) lies, ap (λ (o : Option Shape). words (shape_by o)) known.1);
     })
     (emits_tied d d _ (emits_none d))
+
+-- what was handed in for a VAR parameter
+pub handed_found : (n v : ℕ) (f : RField) (c d : Draft) → f ≡ variable_by (declared_at c.tables (OfLevel n v)) → Emits c d (Doing (λ word. load_code (access_at (OfLevel n v) f.offset))) → Emits c d (Found (Handed n v) OnTop f.shape)
+handed_found n v f c d is load =
+    emits_as c d _ (Found (Handed n v) OnTop f.shape)
+    (λ x t sound there.
+    let s = standing x (OfLevel n v) (Address sound.0) (parameter_variable x.layout.scope n v (Address sound.0) sound.1) in
+    let same : f ≡ variable_by (Some s.variable) = is ∙ ap (λ (ts : Tables). variable_by (declared_at ts (OfLevel n v))) (sym t.1) ∙ ap variable_by s.there in
+    let lies : access_at (OfLevel n v) f.offset ≡ access_at (OfLevel n v) s.offset = ap (λ (f : RField). access_at (OfLevel n v) f.offset) same ∙ s.access in
+    let number : f.shape ≡ s.variable.shape = ap (λ (f : RField). f.shape) same in
+    let leads : shape_at (shapes_of x.tables.shapes) f.shape ≡ sound.0 = ap (shape_at (shapes_of x.tables.shapes)) number ∙ by_place x.tables.shapes s.variable sound.0 s.shape in
+    record {
+      place = record { offset = s.offset; shape = sound.0; at = s.at; typed = sound.1; there = sound.2; load = subst (λ (a : Access). IsAt x.code (length c.bytes) (load_code a) (length d.bytes)) lies t.0 };
+      access = refl;
+      shape = leads ∙ ap (λ (o : Option Shape). led_to (shape_by o)) (sym sound.1);
+      within = omega (arith, ap words leads, ap (λ (o : Option Shape). words (led_to (shape_by o))) sound.1, small_at x.tables.shapes f.shape x.described.measured);
+    })
+    (emits_tied c d _ load)
 
 -- ---- the records of WITHs
 pub held_found : (w : ℕ) (h : HeldRecord) (c d : Draft) → h ≡ held_by (slice_get c.tables.held w) → Emits c d (Doing (λ word. Llw h.word)) → Emits c d (Found (Held w) OnTop h.shape)

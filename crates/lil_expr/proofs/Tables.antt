@@ -2,17 +2,21 @@
 use Rattle.std.proofs.Common.{◌≡◌, ℕ, zero, suc, ◌+◌, ◌*◌, ◌<◌, ◌≤◌, Bool, true, false, if◌then◌else◌, List, [], ◌∷◌, map, length, Option, Some, None, refl, sym, ap, ◌∙◌, subst, arith}
 use Rattle.std.specs.Prelude.{slice_get, nat_lt}
 use Rattle.std.proofs.lemmas.{Bool.ltb-true, Nat.mul-le}
-use Rattle.lil_resolved.specs.{declared.shapes.{RField.RField, RElements.RElements, RShape.RShape}, Kinds.{Shape, Absent, Join, Row, words, is_there, part_at, offset, shape_at, fields_of, element_of, count_of}, Views.{number_of, shape_with, shapes_of, AreMeasuredFields, IsMeasuredShape, AreMeasured}}
+use Rattle.lil_resolved.specs.{declared.shapes.{RField.RField, RElements.RElements, RShape.RShape}, Kinds.{Shape, Absent, Address, Opened, Join, Row, words, is_there, part_at, offset, shape_at, fields_of, element_of, count_of}, Views.{number_of, shape_with, shapes_of, AreMeasuredFields, IsMeasuredShape, AreMeasured}}
 use Rattle.lil_resolved.specs.declared.shapes.RShape.TheVariants as r
 use Rattle.lil_labels.specs.{Entries.{entry, absent}, Tables.{field_by, part_in, part_by, elements_in, elements_by}}
 
 -- ---- shapes
 pub whole_there : (t : Shape) (i : ℕ) → is_there (part_at t (i ∷ [])) ≡ true → is_there t ≡ true
 whole_there Absent i h = h
+whole_there (Address to) i h = h
+whole_there (Opened u) i h = h
 whole_there _ i h = refl
 
 pub array_there : (t : Shape) → is_there (element_of t) ≡ true → is_there t ≡ true
 array_there Absent h = h
+array_there (Address to) h = h
+array_there (Opened u) h = h
 array_there _ h = refl
 
 pub row_is : (t : Shape) (n : ℕ) → is_there (element_of t) ≡ true → count_of t ≡ n → t ≡ Row n (element_of t)

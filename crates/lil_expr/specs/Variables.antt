@@ -5,7 +5,7 @@ use Rattle.std.specs.Option.{option_map}
 use Rattle.std.proofs.lemmas.Option.{none-some, same_Some, slice_get-map, slice_get_within, get_or_from_slice_get}
 use Rattle.lil_resolved.specs.{declared.resolved.{RDeclared.RDeclared, RHeading.RHeading}, Kinds.{Kind, Outline, Shape, Word, words, is_there, shape_by, shape_at, procedure_by, locals_of, locals_at, offsets_from}, Resolved.{Named, OfModule, OfLevel, variable_at}, Sound.IsSoundVariable, Views.{IsMeasuredHeading, locals_of as locals_with, offset_of, shape_declared, shapes_of}}
 use Rattle.lil_table.specs.Rows.{KnownRow, InFrame, offset_at, access_at}
-use Rattle.lil_labels.specs.{declared.buffer.HeldRecord.HeldRecord, Tables.{chain_of, heading_out, locals_in, outline_with, declared_at, variable_by, target_by, word_held, shape_held}, Entries.small_at, Drafts.Final}
+use Rattle.lil_labels.specs.{declared.buffer.HeldRecord.HeldRecord, Tables.{chain_of, heading_out, locals_in, outline_with, declared_at, variable_by, target_by, word_held, shape_held}, Entries.small_declared, Drafts.Final}
 use Rattle.lil_expr.specs.Accesses.{words_in}
 
 -- what a mapped item was made of
@@ -94,7 +94,7 @@ standing x (OfLevel n v) t h =
       variable = found.0;
       there = ap (λ (o : Option RHeading). slice_get (locals_in o) v) a.there ∙ found.1;
       shape = found.2;
-      within = omega (arith, small_at x.tables.shapes found.0.shape x.described.measured, ap words found.2);
+      within = omega (arith, small_declared x.tables.shapes found.0 x.described.measured, ap words found.2);
       offset = cut.0;
       at = cut.1;
       access = ap (InFrame n) (omega (arith, cut.2));

@@ -39,8 +39,8 @@ pub fn variable_access(named: RNamed, offset: u16) -> Access
     }
 }
 
-/// Appends the code of a root, and says how code then has it. A variable takes none, and the record of a WITH the load of
-/// its address.
+/// Appends the code of a root, and says how code then has it. A variable takes none, and what was handed in for a VAR parameter
+/// and the record of a WITH the load of its address.
 pub(crate) fn emit_root(code: &mut CodeBuffer<'_>, root: RRoot) -> Result<Reached, Memory>
     ensures { IfOk result (λ at. Emits code.old code.new (Found (root_view root) (access_view at.access) at.shape)) }
 {
@@ -49,6 +49,15 @@ pub(crate) fn emit_root(code: &mut CodeBuffer<'_>, root: RRoot) -> Result<Reache
             let variable = code.variable(named);
             Ok(Reached {
                 access: variable_access(named, variable.offset),
+                shape: variable.shape,
+            })
+        }
+        RRoot::Handed(levels, number) => {
+            let named = RNamed::Level(levels, number);
+            let variable = code.variable(named);
+            emit_load(code, variable_access(named, variable.offset))?;
+            Ok(Reached {
+                access: Access::OnTop,
                 shape: variable.shape,
             })
         }

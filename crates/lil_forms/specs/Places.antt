@@ -1,7 +1,9 @@
 -- The places that designators lead to, part by part, where code can be made of them.
 use Rattle.std.specs.Prelude.{ℕ, ◌-◌, List, [], ◌∷◌, ◌++◌, length, slice_get, Option, Some, None}
 use Rattle.lil_types.specs.Types.{Table}
-use Rattle.lil_declared.specs.declared.declared.RVar.{RVar}
+use Rattle.lil_declared.specs.declared.declared.{Mode.Mode, RVar.RVar}
+use Rattle.lil_declared.specs.declared.declared.Mode.TheVariants as mode
+use Rattle.lil_resolved.specs.declared.resolved.RNamed.TheVariants as named
 use Rattle.lil_kinds.specs.declared.found.{Found.Found, Located.Located}
 use Rattle.lil_resolved.specs.declared.resolved.{RExpr.RExpr, RKind.RKind, RNamed.RNamed, RPlace.{RPlace, roll-RPlace, out-RPlace}, RRoot.RRoot, RSelector.RSelector}
 use Rattle.lil_resolved.specs.declared.resolved.RRoot.TheVariants as root
@@ -13,10 +15,24 @@ use Rattle.lil_forms.specs.{declared.places.Cell.Cell, Values.typed}
 abbrev pub at_root : RRoot → ℕ → Located
 at_root r s = record { place = roll-RPlace (record { root = r; selectors = [] }); sort = s }
 
--- a variable, where it is seen
+-- with what the place begins to which a variable leads: the variable, or what was handed in for a VAR parameter of a procedure. Open arrays
+-- are no places
+abbrev pub root_of : Mode → RNamed → Option RRoot
+root_of mode.Plain n = Some (root.Variable n)
+root_of mode.Value n = Some (root.Variable n)
+root_of mode.Place (named.Module x) = None
+root_of mode.Place (named.Level l x) = Some (root.Handed l x)
+root_of mode.OpenValue n = None
+root_of mode.OpenPlace n = None
+
+abbrev pub located_at : ℕ → Option RRoot → Option Located
+located_at s None = None
+located_at s (Some r) = Some (at_root r s)
+
+-- where a variable leads, where it is seen
 abbrev pub variable_at : RNamed → Option RVar → Option Located
 variable_at n None = None
-variable_at n (Some v) = Some (at_root (root.Variable n) v.sort)
+variable_at n (Some v) = located_at v.sort (root_of v.mode n)
 
 -- the record of a WITH, by its number from the outermost, by the types of all around
 abbrev pub held_by : List ℕ → ℕ → Option ℕ → Option Located

@@ -6,13 +6,13 @@ use Rattle.lil_types.specs.Types.{Table}
 use Rattle.lil_declared.specs.declared.declared.RVar.{RVar}
 use Rattle.lil_kinds.specs.declared.found.Located.{Located}
 use Rattle.lil_resolved.specs.{Resolved.{kind_of, right_kind}, Kinds.Kind, Sound.{takes_one, takes_value, takes_function, is_element}, Views.{base_view, kind_view, function_of, expression_of}}
-use Rattle.lil_resolved.specs.declared.resolved.{RBase.RBase, RExpr.RExpr, RFunction.RFunction, RKind.RKind, RMember.RMember, RNamed.RNamed, ROperation.ROperation}
+use Rattle.lil_resolved.specs.declared.resolved.{RBase.RBase, RExpr.RExpr, RFunction.RFunction, RKind.RKind, RMember.RMember, RNamed.RNamed, ROperation.ROperation, RRoot.RRoot}
 use Rattle.lil_resolved.specs.declared.resolved.RExpr.TheVariants as e
 use Rattle.lil_resolved.specs.declared.resolved.RMember.TheVariants as m
 use Rattle.lil_resolved.specs.declared.resolved.RRoot.TheVariants as root
 use Rattle.lil_resolved.specs.declared.resolved.RSelector.TheVariants as part
 use Rattle.lil_shapes.specs.{Bases.{kind_at, field_at, array_at}, Operators.{has_number, takes_two}, Pointers.target_at, declared.{composites.ArrayParts.ArrayParts, pointers.Target.Target}}
-use Rattle.lil_forms.specs.{Places.{at_root, part_of}, Values.operation}
+use Rattle.lil_forms.specs.{Places.{root_of, at_root, part_of}, Values.operation}
 
 -- the kind of an expression's values
 abbrev pub value_kind : RExpr → Kind
@@ -23,7 +23,7 @@ pub record Property (t : Table) (vs : RNamed → Option RVar) (around : List ℕ
   pub place : Located → Type 0
   pub value : RExpr → Type 0
   -- places
-  pub variable : (n : RNamed) (v : RVar) → vs n ≡ Some v → place (at_root (root.Variable n) v.sort)
+  pub variable : (n : RNamed) (v : RVar) (r : RRoot) → vs n ≡ Some v → root_of v.mode n ≡ Some r → place (at_root r v.sort)
   pub held : (w s : ℕ) → slice_get around w ≡ Some s → place (at_root (root.Held (length around - 1 - w)) s)
   pub field : (p : Located) (i s : ℕ) → field_at t p.sort i ≡ Some s → place p → place (part_of p (part.Field i) s)
   pub index : (p : Located) (parts : ArrayParts) (j : RKind) (x : RExpr) → array_at t p.sort ≡ Some parts → kind_at t parts.index ≡ Some j → takes_value (kind_view j) (value_kind x) ≡ true → place p → value x
@@ -49,7 +49,7 @@ abbrev pub nothing : (t : Table) (vs : RNamed → Option RVar) (around : List �
 nothing t vs around = record {
   place = λ p. Unit {0};
   value = λ x. Unit {0};
-  variable = λ n v is. tt;
+  variable = λ n v r is root. tt;
   held = λ w s is. tt;
   field = λ p i s is h. tt;
   index = λ p parts j x at kind takes h i. tt;

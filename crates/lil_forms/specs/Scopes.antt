@@ -1,11 +1,11 @@
 -- What lies in the variables that are seen and in the records of the WITHs around, and what is sound there.
-use Rattle.std.proofs.Common.{◌≡◌, ℕ, suc, ◌+◌, ◌<◌, Bool, true, false, ◌&&◌, List, [], ◌∷◌, ◌++◌, length, map, slice_get, Option, None, Some, inl, inr, refl, sym, ap, subst, ◌∙◌, arith}
+use Rattle.std.proofs.Common.{◌≡◌, ℕ, zero, suc, ◌+◌, ◌<◌, Bool, true, false, ◌&&◌, List, [], ◌∷◌, ◌++◌, length, map, take, slice_get, Option, None, Some, inl, inr, refl, sym, ap, subst, ◌∙◌, arith}
 use Rattle.std.specs.{Prelude.{◌-◌, option_and_then}, Option.option_map}
 use Rattle.std.proofs.lemmas.{Option.{none-some, slice_get_within, slice_get-map}, List.length_push}
 use Rattle.lil_types.specs.Types.{Table}
-use Rattle.lil_declared.specs.declared.declared.RVar.{RVar}
+use Rattle.lil_declared.specs.declared.declared.{Mode.TheVariants.Place, RVar.RVar}
 use Rattle.lil_kinds.specs.declared.found.Located.{Located}
-use Rattle.lil_resolved.specs.{Resolved.{Named, OfModule, OfLevel, Designator, variable_at, shape_of}, Kinds.{Shape, Outline, Scope, procedure_by, locals_of, is_there, outermost, with_held}, Sound.{IsSoundPlace, IsSoundExpression}, Views.{named_view, expression_of, place_of}, declared.resolved.{RExpr.RExpr, RNamed.RNamed, RPlace.RPlace}}
+use Rattle.lil_resolved.specs.{Resolved.{Named, OfModule, OfLevel, Designator, variable_at, shape_of}, Kinds.{Shape, Outline, Scope, procedure_by, parameters_of, locals_of, parameters_at, locals_at, is_there, outermost, with_held}, Sound.{IsSoundPlace, IsSoundExpression}, Views.{named_view, expression_of, place_of}, declared.resolved.{RExpr.RExpr, RNamed.RNamed, RPlace.RPlace}}
 use Rattle.lil_resolved.specs.declared.resolved.RNamed.TheVariants as named
 use Rattle.lil_scope.specs.Names.{locals_by}
 use Rattle.lil_shapes.specs.{Pointers.targets, Shaping.{all_some, lying, variables_by}, ListLaws.{AllFine, some_at}, ShapeSound.{at_end, within_is, HasShape}, TargetSound.all_known}
@@ -31,17 +31,30 @@ fine_more IsFine (y ∷ xs) x h j = (h.0, fine_more IsFine xs x h.1 j)
 abbrev pub AreHeld : List Shape → List ℕ → List Shape → Type 0
 AreHeld shapes around held = (w n : ℕ) → slice_get around w ≡ Some n → (x : Shape) × (slice_get shapes n ≡ Some x) × (slice_get held (length around - 1 - w) ≡ Some x) × (is_there x ≡ true)
 
--- what lies in the variables that are seen, in the records of the WITHs around, and behind its pointers, is this, by the shapes of its types
+-- what the variables that are seen hold, what lies in the records of the WITHs around, and what behind its pointers, is this, by the shapes
+-- of its types; and those that hold addresses are parameters
 pub record Fits (t : Table) (vs : RNamed → Option RVar) (around : List ℕ) (ts : Scope) : Type 0 where
   pub shapes : List Shape
   pub types : shaping.shapes t ≡ Some shapes
   pub targets : ts.targets ≡ targets t shapes
   pub variables : (n : RNamed) (v : RVar) → vs n ≡ Some v → (x : Shape) × (lying shapes v ≡ Some x) × (variable_at ts (named_view n) ≡ Some x)
+  pub handed : (l x : ℕ) (v : RVar) → vs (named.Level l x) ≡ Some v → v.mode ≡ Place → slice_get (parameters_at ts l) x ≡ slice_get (locals_at ts l) x
   pub held : AreHeld shapes around ts.held
 
--- what lies in the variables of procedures is told of these, by their numbers
+-- what the variables of a procedure hold, and which of them are parameters
+pub record IsOutlined (shapes : List Shape) (vs : List RVar) (o : Outline) : Type 0 where
+  pub locals : all_some (map (lying shapes) vs) ≡ Some o.locals
+  pub handed : (x : ℕ) (v : RVar) → slice_get vs x ≡ Some v → v.mode ≡ Place → x < o.parameters
+
+-- the same of all procedures, by their numbers
 abbrev pub AreOutlined : List Shape → List (List RVar) → List Outline → Type 0
-AreOutlined shapes ls outlines = (p : ℕ) (vs : List RVar) → slice_get ls p ≡ Some vs → (o : Outline) × (slice_get outlines p ≡ Some o) × (all_some (map (lying shapes) vs) ≡ Some o.locals)
+AreOutlined shapes ls outlines = (p : ℕ) (vs : List RVar) → slice_get ls p ≡ Some vs → (o : Outline) × (slice_get outlines p ≡ Some o) × IsOutlined shapes vs o
+
+taken_same : (n x : ℕ) (xs : List Shape) → x < n → slice_get (take n xs) x ≡ slice_get xs x
+taken_same zero x xs less = absurd (omega (arith, less))
+taken_same (suc n) x [] less = refl
+taken_same (suc n) zero (y ∷ xs) less = refl
+taken_same (suc n) (suc x) (y ∷ xs) less = taken_same n x xs (omega (arith, less))
 
 -- outside of all WITHs it is what lies in the variables of the module and of the procedures at hand, whatever other procedures there are
 module _ (t : Table) (vs : List RVar) (ls : List (List RVar)) (shapes lies : List Shape) (outlines : List Outline) (chain : List ℕ) (types : shaping.shapes t ≡ Some shapes) (variables : variables_by (Some shapes) vs ≡ Some lies)
@@ -52,14 +65,30 @@ module _ (t : Table) (vs : List RVar) (ls : List (List RVar)) (shapes lies : Lis
   abbrev IsShown : RNamed → RVar → Type 0
   IsShown n v = (x : Shape) × (lying shapes v ≡ Some x) × (variable_at around_none (named_view n) ≡ Some x)
 
+  -- what is told of a procedure at hand
+  outline_at : (l p : ℕ) → slice_get chain l ≡ Some p → (o : Outline) → slice_get outlines p ≡ Some o → option_and_then (procedure_by outlines) (slice_get (map (λ n. n + 1) chain) l) ≡ Some o
+  outline_at l p at o is =
+      let number : p + 1 ≡ suc p = omega arith in
+      let up : slice_get (map (λ n. n + 1) chain) l ≡ Some (suc p) = slice_get-map (λ n. n + 1) chain l ∙ ap (option_map (λ n. n + 1)) at ∙ ap Some number in
+      ap (option_and_then (procedure_by outlines)) up ∙ is
+
   local_shown : (l x p : ℕ) (v : RVar) (o : Option (List RVar)) → slice_get chain l ≡ Some p → slice_get ls p ≡ o → slice_get (locals_by o) x ≡ Some v → IsShown (named.Level l x) v
   local_shown l x p v None at there is = absurd (none-some v is)
   local_shown l x p v (Some ws) at there is =
       let o = outlined p ws there in
-      let one = some_at (lying shapes) ws o.0.locals x v o.2 is in
-      let number : p + 1 ≡ suc p = omega arith in
-      let up : slice_get (map (λ n. n + 1) chain) l ≡ Some (suc p) = slice_get-map (λ n. n + 1) chain l ∙ ap (option_map (λ n. n + 1)) at ∙ ap Some number in
-      (one.0, one.1, (λ i. slice_get (locals_of (option_and_then (procedure_by outlines) (up i))) x) ∙ ap (λ o. slice_get (locals_of o) x) o.1 ∙ one.2)
+      let one = some_at (lying shapes) ws o.0.locals x v o.2.locals is in
+      (one.0, one.1, ap (λ o. slice_get (locals_of o) x) (outline_at l p at o.0 o.1) ∙ one.2)
+
+  local_handed : (l x p : ℕ) (v : RVar) (o : Option (List RVar)) → slice_get chain l ≡ Some p → slice_get ls p ≡ o → slice_get (locals_by o) x ≡ Some v → v.mode ≡ Place → slice_get (parameters_at around_none l) x ≡ slice_get (locals_at around_none l) x
+  local_handed l x p v None at there is mode = absurd (none-some v is)
+  local_handed l x p v (Some ws) at there is mode =
+      let o = outlined p ws there in
+      let here = outline_at l p at o.0 o.1 in
+      ap (λ o. slice_get (parameters_of o) x) here ∙ taken_same o.0.parameters x o.0.locals (o.2.handed x v is mode) ∙ sym (ap (λ o. slice_get (locals_of o) x) here)
+
+  level_handed : (l x : ℕ) (v : RVar) (o : Option ℕ) → slice_get chain l ≡ o → slice_get (locals_out ls o) x ≡ Some v → v.mode ≡ Place → slice_get (parameters_at around_none l) x ≡ slice_get (locals_at around_none l) x
+  level_handed l x v None at is mode = absurd (none-some v is)
+  level_handed l x v (Some p) at is mode = local_handed l x p v (slice_get ls p) at refl is mode
 
   level_shown : (l x : ℕ) (v : RVar) (o : Option ℕ) → slice_get chain l ≡ o → slice_get (locals_out ls o) x ≡ Some v → IsShown (named.Level l x) v
   level_shown l x v None at is = absurd (none-some v is)
@@ -75,6 +104,7 @@ module _ (t : Table) (vs : List RVar) (ls : List (List RVar)) (shapes lies : Lis
     types = types;
     targets = refl;
     variables = shown;
+    handed = λ l x v is mode. level_handed l x v (slice_get chain l) refl is mode;
     held = λ w n is. absurd (none-some n is);
   }
 
@@ -121,5 +151,6 @@ deeper {around} {ts} fits p h there = record {
   types = fits.types;
   targets = fits.targets;
   variables = λ n v is. let one = fits.variables n v is in (one.0, one.1, same_variables ts (shape_of ts (place_of p.place)) (named_view n) ∙ one.2);
+  handed = fits.handed;
   held = more_held fits.shapes around ts.held p.sort (shape_of ts (place_of p.place)) fits.held h.shape there;
 }

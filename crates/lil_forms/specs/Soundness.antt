@@ -2,14 +2,17 @@
 use Rattle.std.proofs.Common.{◌≡◌, ℕ, ◌≤◌, ℤ, true, List, [], ◌∷◌, ◌++◌, map, length, slice_get, Option, None, Some, IfSome, refl, sym, ap, ◌∙◌, subst}
 use Rattle.std.specs.Prelude.{◌-◌, ◌==◌}
 use Rattle.std.specs.Option.{option_map}
-use Rattle.std.proofs.lemmas.Option.{none-some, cond_some}
+use Rattle.std.proofs.lemmas.Option.{none-some, cond_some, same_Some}
 use Rattle.lil_base.specs.declared.operator.{OneOp.OneOp, TwoOp.{TwoOp, TheVariants.{Or, And}}}
 use Rattle.lil_types.specs.Types.{Table, char, base}
-use Rattle.lil_declared.specs.declared.declared.RVar.{RVar}
+use Rattle.lil_declared.specs.declared.declared.{Mode.Mode, RVar.RVar}
+use Rattle.lil_declared.specs.declared.declared.Mode.TheVariants as mode
 use Rattle.lil_kinds.specs.declared.found.Located.{Located}
-use Rattle.lil_resolved.specs.{Bases.own_base, Chains.set_kind, Kinds.{Kind, OfCharacter, OfSet, is_base, Shape, Scope, Word, Row, element_of as elements, count_of, is_there, shape_by, shape_at}, Sizes.place_depth, Resolved.{variable_at, shape_of, Expression, Two, kind_of, right_kind}}
-use Rattle.lil_resolved.specs.Views.{field_is, index_is, follow_is, one_is, apply_is, chain_is, set_is, single_is, span_is, constant_is, taken_is, kind_view, named_view, base_view, expression_of, place_of, two_of, chained, with_members, empty_set, function_of, member_of, operation_of}
-use Rattle.lil_resolved.specs.declared.resolved.{RBase.RBase, RExpr.RExpr, RFunction.RFunction, RKind.RKind, RMember.RMember, RNamed.RNamed, ROperation.ROperation}
+use Rattle.lil_resolved.specs.{Bases.own_base, Chains.set_kind, Kinds.{Kind, OfCharacter, OfSet, is_base, Shape, Address, Scope, Word, Row, element_of as elements, count_of, is_there, led_to, parameters_at, shape_by, shape_at}, Sizes.place_depth, Resolved.{variable_at, shape_of, Expression, Two, kind_of, right_kind}}
+use Rattle.lil_resolved.specs.Views.{field_is, index_is, follow_is, one_is, apply_is, chain_is, set_is, single_is, span_is, constant_is, taken_is, kind_view, held_by, named_view, base_view, expression_of, place_of, two_of, chained, with_members, empty_set, function_of, member_of, operation_of}
+use Rattle.lil_resolved.specs.declared.resolved.{RBase.RBase, RExpr.RExpr, RFunction.RFunction, RKind.RKind, RMember.RMember, RNamed.RNamed, ROperation.ROperation, RPassing.RPassing, RRoot.RRoot}
+use Rattle.lil_resolved.specs.declared.resolved.RNamed.TheVariants as named
+use Rattle.lil_resolved.specs.declared.resolved.RPassing.TheVariants as passing
 use Rattle.lil_resolved.specs.Resolved as resolved
 use Rattle.lil_resolved.specs.Sound as sound
 use Rattle.lil_resolved.specs.Sound.{IsScalar, IsSoundTarget, IsSoundExpression}
@@ -18,33 +21,56 @@ use Rattle.lil_resolved.specs.declared.resolved.RExpr.TheVariants as e
 use Rattle.lil_resolved.specs.declared.resolved.RMember.TheVariants as m
 use Rattle.lil_resolved.specs.declared.resolved.RRoot.TheVariants as root
 use Rattle.lil_resolved.specs.declared.resolved.RSelector.TheVariants as part
-use Rattle.lil_shapes.specs.{declared.{composites.ArrayParts.ArrayParts, pointers.Target.Target}, Bases.{plain, kind_at, numbers_of, characters_in, characters_at, field_at, array_at, composite_at}, Pointers.target_at, Shaping.{there}, BaseLaws.{if_some, same_sort, base_words, kind_base, literal_sound}}
+use Rattle.lil_shapes.specs.{declared.{composites.ArrayParts.ArrayParts, pointers.Target.Target}, Bases.{plain, kind_at, numbers_of, characters_in, characters_at, field_at, array_at, composite_at}, Pointers.target_at, Shaping.{there, passing_of, held_as}, BaseLaws.{if_some, same_sort, base_words, kind_base, literal_sound}}
 use Rattle.lil_shapes.specs.{ShapeSound.{mapped, field_shaped, element_shaped, composite_shaped, word_shaped}, TargetSound.{PointsTo, all_known, target_shaped}, Operators.{takes_two, is_a_truth, has_number}}
-use Rattle.lil_forms.specs.{Places.{at_root, part_of}, Values.operation, Parts.{placed_is, further_is, chained_more, members_more}, Scopes.{Fits, IsPlaced, placed_as, Runs, has_shape}, Properties.{Property, value_kind}}
+use Rattle.lil_forms.specs.{Places.{root_of, at_root, part_of}, Values.operation, Parts.{placed_is, further_is, chained_more, members_more}, Scopes.{Fits, IsPlaced, placed_as, Runs, has_shape}, Properties.{Property, value_kind}}
 
 -- elements that are words are those of an array
 row_is : (x : Shape) (k : Kind) → elements x ≡ Word k → x ≡ Row (count_of x) (Word k)
 row_is (Row n y) k h = ap (Row n) h
 row_is _ k h = cc
 
-there_is : (o : Option Shape) (s : Shape) → there o ≡ Some s → o ≡ Some s
-there_is None s h = h
-there_is (Some x) s h = ap Some (cond_some (is_there x) x s h).1
+pub there_is : (o : Option Shape) (s : Shape) → there o ≡ Some s → (o ≡ Some s) × (is_there s ≡ true)
+there_is None s h = absurd (none-some s h)
+there_is (Some x) s h = let c = cond_some (is_there x) x s h in (ap Some c.1, ap is_there (sym c.1) ∙ c.0)
 
 module _ {t : Table} {vs : RNamed → Option RVar} {around : List ℕ} {ts : Scope} (fits : Fits t vs around ts) where
   abbrev pub Lies : Located → Type 0
   Lies p = IsPlaced fits.shapes ts p
 
   -- ---- variables, and the records of WITHs
-  pub variable_lies : (n : RNamed) (v : RVar) → vs n ≡ Some v → (x : Shape) × (slice_get fits.shapes v.sort ≡ Some x) × (variable_at ts (named_view n) ≡ Some x)
-  variable_lies n v is =
+  -- a variable holds what lies in it or where it leads to
+  pub variable_lies : (n : RNamed) (v : RVar) (p : RPassing) → vs n ≡ Some v → passing_of v.mode ≡ Some p → (x : Shape) × (slice_get fits.shapes v.sort ≡ Some x) × (is_there x ≡ true) × (variable_at ts (named_view n) ≡ Some (held_by p x))
+  variable_lies n v p is passed =
       let one = fits.variables n v is in
-      (one.0, there_is (slice_get fits.shapes v.sort) one.0 one.1, one.2)
+      let held = mapped (held_by p) (there (slice_get fits.shapes v.sort)) one.0 (ap (λ (o : Option RPassing). held_as o (there (slice_get fits.shapes v.sort))) (sym passed) ∙ one.1) in
+      let here = there_is (slice_get fits.shapes v.sort) held.0 held.1 in
+      (held.0, here.0, here.1, one.2 ∙ ap Some (sym held.2))
 
-  pub variable_sound : (n : RNamed) (v : RVar) → vs n ≡ Some v → Lies (at_root (root.Variable n) v.sort)
-  variable_sound n v is =
-      let at = variable_lies n v is in
-      placed_as fits.shapes ts _ v.sort (resolved.Variable (named_view n)) (placed_is (root.Variable n) []) (at.1 ∙ ap (λ o. Some (shape_by o)) (sym at.2)) tt
+  in_variable : (n : RNamed) (v : RVar) → vs n ≡ Some v → passing_of v.mode ≡ Some passing.ByValue → Lies (at_root (root.Variable n) v.sort)
+  in_variable n v is passed =
+      let at = variable_lies n v passing.ByValue is passed in
+      placed_as fits.shapes ts _ v.sort (resolved.Variable (named_view n)) (placed_is (root.Variable n) []) (at.1 ∙ ap (λ o. Some (shape_by o)) (sym at.3)) tt
+
+  handed_in : (l x : ℕ) (v : RVar) → vs (named.Level l x) ≡ Some v → v.mode ≡ mode.Place → Lies (at_root (root.Handed l x) v.sort)
+  handed_in l x v is place =
+      let at = variable_lies (named.Level l x) v passing.ByPlace is (ap passing_of place) in
+      let known : slice_get (parameters_at ts l) x ≡ Some (Address at.0) = fits.handed l x v is place ∙ at.3 in
+      placed_as fits.shapes ts _ v.sort (resolved.Handed l x) (placed_is (root.Handed l x) []) (at.1 ∙ ap (λ o. Some (led_to (shape_by o))) (sym known)) (at.0, known, at.2)
+
+  pub variable_sound : (n : RNamed) (v : RVar) (r : RRoot) → vs n ≡ Some v → root_of v.mode n ≡ Some r → Lies (at_root r v.sort)
+  variable_sound n v r is leads = by v.mode n refl is leads
+    where
+      along : {q : RRoot} → Some q ≡ Some r → Lies (at_root q v.sort) → Lies (at_root r v.sort)
+      along {q} e h = subst (λ (r : RRoot). Lies (at_root r v.sort)) (same_Some q r e) h
+
+      by : (m : Mode) (n : RNamed) → v.mode ≡ m → vs n ≡ Some v → root_of m n ≡ Some r → Lies (at_root r v.sort)
+      by mode.Plain n same is e = along e (in_variable n v is (ap passing_of same))
+      by mode.Value n same is e = along e (in_variable n v is (ap passing_of same))
+      by mode.Place (named.Module x) same is e = absurd (none-some r e)
+      by mode.Place (named.Level l x) same is e = along e (handed_in l x v is same)
+      by mode.OpenValue n same is e = absurd (none-some r e)
+      by mode.OpenPlace n same is e = absurd (none-some r e)
 
   pub held_sound : (w s : ℕ) → slice_get around w ≡ Some s → Lies (at_root (root.Held (length around - 1 - w)) s)
   held_sound w s is =

@@ -7,14 +7,14 @@ use Rattle.lil_declared.specs.declared.standard.Resident.TheVariants as resident
 use Rattle.lil_kinds.specs.declared.found.{Form.Form, Found.Found, Located.Located}
 use Rattle.lil_kinds.specs.declared.found.Form.TheVariants as form
 use Rattle.lil_resolved.specs.Views.{kind_view}
-use Rattle.lil_resolved.specs.declared.resolved.{Allocation.{Allocation, TheVariants.{Takes, GivesBack}}, Direction.Direction, Membership.Membership, RArgument.RArgument, RExpr.RExpr, RKind.RKind, RStmt.RStmt}
+use Rattle.lil_resolved.specs.declared.resolved.{Allocation.{Allocation, TheVariants.{Takes, GivesBack}}, Direction.Direction, Membership.Membership, RArgument.RArgument, RExpr.RExpr, RKind.RKind, RPlace.RPlace, RStmt.RStmt}
 use Rattle.lil_resolved.specs.declared.resolved.RArgument.TheVariants as given
 use Rattle.lil_resolved.specs.declared.resolved.RExpr.TheVariants as e
 use Rattle.lil_resolved.specs.declared.resolved.RStmt.TheVariants as s
 use Rattle.lil_base.specs.declared.request.Request as requests
 use Rattle.lil_base.specs.declared.request.Request.TheVariants as q
 use Rattle.lil_shapes.specs.{Bases.{kind_at, characters_at, members_at, composite_at}, Operators.{counted, counted_base}, declared.{members.Members.Members, pointers.Target.Target}, Pointers.target_of}
-use Rattle.lil_forms.specs.{declared.{arguments.Handed.Handed, places.Cell.Cell}, Values.typed, Places.cell}
+use Rattle.lil_forms.specs.{declared.places.Cell.Cell, Values.typed, Places.cell}
 
 -- ---- assignments
 -- a value goes to a place of a kind
@@ -95,8 +95,8 @@ disposed t p = disposed_at (cell t p)
 
 -- ---- ALLOCATE and DEALLOCATE
 -- an address gets a workspace of so many words, or gives it back
-abbrev pub allocated : Allocation → Option Cell → Option RExpr → Option RStmt
-allocated way (Some c) (Some x) = Some (s.Allocate way c.place x)
+abbrev pub allocated : Allocation → Option RPlace → Option RExpr → Option RStmt
+allocated way (Some p) (Some x) = Some (s.Allocate way p x)
 allocated way _ _ = None
 
 -- ---- the forms of arguments, and of calls of resident procedures
@@ -130,28 +130,30 @@ abbrev pub value_by : Table → ℕ → Option RKind → Found → Option RArgum
 value_by t s None a = None
 value_by t s (Some j) a = value_as j (typed t s a)
 
--- ---- what a call is handed
-abbrev pub nothing_handed : Handed
-nothing_handed = record { places = Some []; arguments = Some [] }
-
+-- ---- places
 abbrev pub located_in : Form → Option Located
 located_in form.Nothing = None
 located_in (form.Text cs) = None
 located_in (form.Located p) = Some p
 located_in (form.Value x) = None
 
--- open arrays by place have no code
-abbrev pub place_given : Table → Parameter → Found → Option Cell
-place_given t p a = if p.open_array then None else cell t (located_in a.form)
+abbrev pub place_given : Option Located → Option RArgument
+place_given None = None
+place_given (Some p) = Some (given.Place p.place)
 
+-- ---- what a call is handed, argument by argument, where all of it has code
+-- open arrays by place have none, and neither have values of arrays and records, which have no kind
 abbrev pub argument_given : Table → Parameter → Found → Option RArgument
-argument_given t p a = if p.open_array then string_given t a.form else value_by t p.sort (kind_at t p.sort) a
+argument_given t p a =
+    if p.by_place then (if p.open_array then None else place_given (located_in a.form))
+    else (if p.open_array then string_given t a.form else value_by t p.sort (kind_at t p.sort) a)
+
+abbrev pub nothing_handed : Option (List RArgument)
+nothing_handed = Some []
 
 -- one argument more
-unfoldable pub handed_over : Table → Parameter → Handed → Found → Handed
-handed_over t p h a =
-    if p.by_place then record { places = joined h.places (place_given t p a); arguments = h.arguments }
-    else record { places = h.places; arguments = joined h.arguments (argument_given t p a) }
+unfoldable pub handed_over : Table → Parameter → Option (List RArgument) → Found → Option (List RArgument)
+handed_over t p h a = joined h (argument_given t p a)
 
 -- ---- requests
 abbrev pub request_of : Resident → Option requests.Request
@@ -174,35 +176,30 @@ allocation_of resident.Deallocate = Some GivesBack
 allocation_of _ = None
 
 -- ---- calls
-abbrev pub requested : requests.Request → Option (List RArgument) → Option RStmt
-requested r None = None
-requested r (Some xs) = Some (s.Request r xs)
+abbrev pub request : Option requests.Request → List RArgument → Option RStmt
+request None xs = None
+request (Some r) xs = Some (s.Request r xs)
 
-abbrev pub request : Option requests.Request → Handed → Option RStmt
-request None h = None
-request (Some r) h = requested r h.arguments
+-- the place, and the value, that an argument is
+abbrev pub place_in : RArgument → Option RPlace
+place_in (given.Place p) = Some p
+place_in _ = None
 
--- the only one of some
-abbrev pub only : {A : Type 0} → Option (List A) → Option A
-only (Some (x ∷ [])) = Some x
-only _ = None
-
--- the value that an argument is
 abbrev pub value_in : RArgument → Option RExpr
 value_in (given.Value j x) = Some x
 value_in _ = None
 
-abbrev pub value_of : Option RArgument → Option RExpr
-value_of None = None
-value_of (Some a) = value_in a
+-- of a place and a number of words
+abbrev pub allocation : Allocation → List RArgument → Option RStmt
+allocation way [] = None
+allocation way (a ∷ []) = None
+allocation way (a ∷ b ∷ xs) = allocated way (place_in a) (value_in b)
 
-abbrev pub allocation : Allocation → Handed → Option RStmt
-allocation way h = allocated way (only h.places) (value_of (only h.arguments))
-
-abbrev pub called_by : Option Allocation → Option requests.Request → Handed → Option RStmt
-called_by (Some way) r h = allocation way h
-called_by None r h = request r h
+abbrev pub called_by : Option Allocation → Option requests.Request → List RArgument → Option RStmt
+called_by (Some way) r xs = allocation way xs
+called_by None r xs = request r xs
 
 -- a call of a resident procedure with arguments that are all there
-unfoldable pub called : Resident → Handed → Option RStmt
-called r h = called_by (allocation_of r) (request_of r) h
+unfoldable pub called : Resident → Option (List RArgument) → Option RStmt
+called r None = None
+called r (Some xs) = called_by (allocation_of r) (request_of r) xs

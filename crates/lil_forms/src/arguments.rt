@@ -1,33 +1,21 @@
 ghost use Rattle.std.specs.Prelude.{◌≡◌, IfOk};
 ghost use Rattle.lil_forms.specs.Statements as spec;
 
-use crate::places::{Cell, cell_at};
 use crate::sets::allocated;
 use crate::values::typed;
-use lil_base::{Items, Memory, Request, beside, joined};
+use lil_base::{Items, Memory, Request, joined};
 use lil_declared::Resident;
 use lil_kinds::{Form, Found, Located};
-use lil_resolved::{Allocation, RArgument, RExpr, RKind, RStmt};
+use lil_resolved::{Allocation, RArgument, RExpr, RKind, RPlace, RStmt};
 use lil_shapes::{characters_at, kind_at};
 use lil_types::{Parameter, TypeId, TypeTable};
 use std::alloc::Global;
 
-/// What a call is handed, where all of it has code: the places for parameters by place in their order, and the arguments of
-/// the other parameters in theirs.
-#[derive(Drop)]
-pub struct Handed {
-    pub places: Option<Items<Cell>>,
-    pub arguments: Option<Items<RArgument>>,
-}
-
-/// Nothing yet.
-pub fn nothing_handed(alloc: Global) -> Handed
+/// What a call is handed, where all of it has code: nothing yet.
+pub fn nothing_handed(alloc: Global) -> Option<Items<RArgument>>
     ensures { result ≡ spec.nothing_handed }
 {
-    Handed {
-        places: Some(Items::new(alloc)),
-        arguments: Some(Items::new(alloc)),
-    }
+    Some(Items::new(alloc))
 }
 
 /// The number of the last of some elements, where it is a word.
@@ -93,23 +81,28 @@ pub fn located_in(of: Form) -> Option<Located>
     }
 }
 
-/// The place that a parameter gets which isn't an open array.
-fn place_given(t: &TypeTable, parameter: Parameter, of: Found) -> Option<Cell>
-    ensures { result ≡ spec.place_given t.now parameter of }
+/// A place for a parameter by place.
+fn place_given(of: Option<Located>) -> Option<RArgument>
+    ensures { result ≡ spec.place_given of }
 {
-    if parameter.open_array {
-        drop(of);
-        None
-    } else {
-        cell_at(t, located_in(of.form))
+    match of {
+        None => None,
+        Some(of) => Some(RArgument::Place(of.place)),
     }
 }
 
-/// The argument that a parameter gets which isn't one by place.
+/// The argument that a parameter gets. It has no form where the value has none, and where its parameter has no code.
 fn argument_given(t: &TypeTable, parameter: Parameter, of: Found) -> Option<RArgument>
     ensures { result ≡ spec.argument_given t.now parameter of }
 {
-    if parameter.open_array {
+    if parameter.by_place {
+        if parameter.open_array {
+            drop(of);
+            None
+        } else {
+            place_given(located_in(of.form))
+        }
+    } else if parameter.open_array {
         string_given(t, of.form)
     } else {
         let kind = kind_at(t, parameter.sort);
@@ -117,26 +110,18 @@ fn argument_given(t: &TypeTable, parameter: Parameter, of: Found) -> Option<RArg
     }
 }
 
-/// One argument more, which has a value. It has no form where the value has none, and where its parameter has no code.
+/// One argument more, which has a value.
 #[tactic(auto, unfolding(crate::specs::Statements::handed_over))]
 pub fn handed_over(
     t: &TypeTable,
     parameter: Parameter,
-    before: Handed,
+    before: Option<Items<RArgument>>,
     of: Found,
-) -> Result<Handed, Memory>
-    ensures { IfOk result (λ h. h ≡ spec.handed_over t.now parameter before of) }
+) -> Result<Option<Items<RArgument>>, Memory>
+    ensures { IfOk result (λ given. given ≡ spec.handed_over t.now parameter before of) }
 {
-    let Handed { places, arguments } = before;
-    if parameter.by_place {
-        let place = place_given(t, parameter, of);
-        let (arguments, places) = beside(arguments, joined(places, place))?;
-        Ok(Handed { places, arguments })
-    } else {
-        let argument = argument_given(t, parameter, of);
-        let (places, arguments) = beside(places, joined(arguments, argument))?;
-        Ok(Handed { places, arguments })
-    }
+    let argument = argument_given(t, parameter, of);
+    joined(before, argument)
 }
 
 fn request_of(of: Resident) -> Option<Request>
@@ -168,6 +153,19 @@ fn allocation_of(of: Resident) -> Option<Allocation>
     }
 }
 
+/// The place that an argument is.
+fn place_in(of: RArgument) -> Option<RPlace>
+    ensures { result ≡ spec.place_in of }
+{
+    match of {
+        RArgument::Place(place) => Some(place),
+        rest => {
+            drop(rest);
+            None
+        }
+    }
+}
+
 /// The value that an argument is.
 fn value_in(of: RArgument) -> Option<RExpr>
     ensures { result ≡ spec.value_in of }
@@ -181,50 +179,48 @@ fn value_in(of: RArgument) -> Option<RExpr>
     }
 }
 
-/// The only one of some.
-fn only<T: Drop>(of: Option<Items<T>>) -> Option<T>
-    ensures { result ≡ spec.only of }
+/// ALLOCATE or DEALLOCATE of a place and a number of words.
+fn allocation(way: Allocation, given: Items<RArgument>) -> Option<RStmt>
+    ensures { result ≡ spec.allocation way given }
 {
-    let Some(of) = of else {
-        return None;
-    };
-    let mut of = of;
-    match of.take_first() {
-        Some(first) if of.is_empty() => Some(first),
-        rest => {
-            drop((of, rest));
-            None
-        }
+    let mut left = given;
+    match left.take_first() {
+        None => None,
+        Some(place) => match left.take_first() {
+            None => {
+                drop(place);
+                None
+            }
+            Some(words) => {
+                drop(left);
+                allocated(way, place_in(place), value_in(words))
+            }
+        },
     }
 }
 
-fn allocation(way: Allocation, of: Handed) -> Option<RStmt>
-    ensures { result ≡ spec.allocation way of }
+fn request(of: Option<Request>, given: Items<RArgument>) -> Option<RStmt>
+    ensures { result ≡ spec.request of given }
 {
-    let Handed { places, arguments } = of;
-    let words = match only(arguments) {
-        None => None,
-        Some(argument) => value_in(argument),
-    };
-    allocated(way, only(places), words)
-}
-
-fn request(of: Option<Request>, handed: Handed) -> Option<RStmt>
-    ensures { result ≡ spec.request of handed }
-{
-    match of.zip(handed.arguments) {
-        None => None,
-        Some((request, arguments)) => Some(RStmt::Request(request, arguments)),
+    match of {
+        None => {
+            drop(given);
+            None
+        }
+        Some(request) => Some(RStmt::Request(request, given)),
     }
 }
 
 /// A call of a resident procedure. None where an argument has no form, or the procedure has no code.
 #[tactic(auto, unfolding(crate::specs::Statements::called))]
-pub fn called(of: Resident, handed: Handed) -> Option<RStmt>
-    ensures { result ≡ spec.called of handed }
+pub fn called(of: Resident, given: Option<Items<RArgument>>) -> Option<RStmt>
+    ensures { result ≡ spec.called of given }
 {
+    let Some(given) = given else {
+        return None;
+    };
     match allocation_of(of) {
-        Some(way) => allocation(way, handed),
-        None => request(request_of(of), handed),
+        Some(way) => allocation(way, given),
+        None => request(request_of(of), given),
     }
 }

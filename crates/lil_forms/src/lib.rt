@@ -9,7 +9,7 @@ mod statements;
 mod values;
 mod variables;
 
-pub use arguments::{Handed, called, handed_over, located_in, nothing_handed};
+pub use arguments::{called, handed_over, located_in, nothing_handed};
 pub use operators::{
     Built, applied, begun, chain_form, function_by, one_of, operated, set_form, single_by, span_by,
     value_form,

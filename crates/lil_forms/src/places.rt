@@ -4,7 +4,7 @@ ghost use Rattle.lil_forms.specs.Places as spec;
 
 use crate::values::typed;
 use lil_base::{Items, Memory, beside};
-use lil_declared::RVar;
+use lil_declared::{Mode, RVar};
 use lil_kinds::{Found, Located};
 use lil_resolved::{RExpr, RKind, RNamed, RPlace, RRoot, RSelector};
 use lil_shapes::{ArrayParts, array_at, field_at, kind_at, target_at};
@@ -31,13 +31,31 @@ fn at_root(alloc: Global, root: RRoot, sort: TypeId) -> Located
     }
 }
 
-/// A variable, by what is known of it, None where it isn't seen.
+/// With what the place begins to which a variable leads: the variable, or what was handed in for a VAR parameter. None for an
+/// open array, and for a VAR parameter of no procedure.
+fn root_of(mode: Mode, named: RNamed) -> Option<RRoot>
+    ensures { result ≡ spec.root_of mode named }
+{
+    match mode {
+        Mode::Plain | Mode::Value => Some(RRoot::Variable(named)),
+        Mode::Place => match named {
+            RNamed::Module(_) => None,
+            RNamed::Level(levels, number) => Some(RRoot::Handed(levels, number)),
+        },
+        Mode::OpenValue | Mode::OpenPlace => None,
+    }
+}
+
+/// Where a variable leads, by what is known of it, None where it isn't seen.
 pub fn variable_at(alloc: Global, named: RNamed, of: Option<&RVar>) -> Option<Located>
     ensures { result ≡ spec.variable_at named (option_copied of.entry) }
 {
     match of {
         None => None,
-        Some(variable) => Some(at_root(alloc, RRoot::Variable(named), variable.sort)),
+        Some(variable) => match root_of(variable.mode, named) {
+            None => None,
+            Some(root) => Some(at_root(alloc, root, variable.sort)),
+        },
     }
 }
 

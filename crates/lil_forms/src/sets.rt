@@ -1,10 +1,10 @@
 ghost use Rattle.std.specs.Prelude.{◌≡◌};
 ghost use Rattle.lil_forms.specs.Statements as spec;
 
-use crate::places::{Cell, cell_at};
+use crate::places::cell_at;
 use crate::values::typed;
 use lil_kinds::{Found, Located};
-use lil_resolved::{Allocation, Membership, RExpr, RStmt};
+use lil_resolved::{Allocation, Membership, RExpr, RPlace, RStmt};
 use lil_shapes::members_at;
 use lil_types::TypeTable;
 
@@ -31,11 +31,11 @@ pub fn turned(t: &TypeTable, way: Membership, set: Option<Located>, of: Found) -
 }
 
 /// ALLOCATE and DEALLOCATE: an address at a place gets a workspace of so many words, or is NIL again.
-pub fn allocated(way: Allocation, of: Option<Cell>, words: Option<RExpr>) -> Option<RStmt>
+pub fn allocated(way: Allocation, of: Option<RPlace>, words: Option<RExpr>) -> Option<RStmt>
     ensures { result ≡ spec.allocated way of words }
 {
     match of.zip(words) {
         None => None,
-        Some((cell, words)) => Some(RStmt::Allocate(way, cell.place, words)),
+        Some((place, words)) => Some(RStmt::Allocate(way, place, words)),
     }
 }

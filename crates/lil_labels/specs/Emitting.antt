@@ -1,10 +1,10 @@
 -- How pieces of code that are emitted one behind another make one piece.
-use Rattle.std.proofs.Common.{◌≡◌, ◌≢◌, ℕ, zero, suc, ◌+◌, ◌<◌, ◌≤◌, List, [], ◌∷◌, ◌++◌, take, drop, length, get_or, Option, Some, None, refl, sym, ap, ◌∙◌, subst, arith, length-append, append-nil, append_assoc, Result, Ok, Err, OnOk}
+use Rattle.std.proofs.Common.{◌≡◌, ◌≢◌, ℕ, zero, suc, ◌+◌, ◌<◌, ◌≤◌, List, [], ◌∷◌, ◌++◌, take, drop, length, get_or, Option, Some, None, refl, sym, ap, ◌∙◌, subst, arith, append-nil, append_assoc, Result, Ok, Err, OnOk}
 use Rattle.std.specs.Prelude.{slice_get, slice_set}
 use Rattle.std.proofs.lemmas.{Option.slice_get_within, List.{length-set, take_more}}
 use Rattle.lil_resolved.specs.Kinds.{Shape}
 use Rattle.lil_table.specs.Rows.{holding}
-use Rattle.lil_labels.specs.{declared.buffer.HeldRecord.HeldRecord, Tables.{Tables, shape_held}, Drafts.{Draft, inside, outside, written, code_of, IsOpen, Final, Fits, Meaning, Adds, Emits, Nothing, Each, Marking, Places, Ends}, Settling.written_long}
+use Rattle.lil_labels.specs.{declared.buffer.HeldRecord.HeldRecord, Tables.{Tables, shape_held}, Drafts.{Draft, inside, outside, written, code_of, IsOpen, Final, Fits, Meaning, Adds, Emits, Nothing, Each, Marking, Places, Ends}}
 
 pub emits_none : (d : Draft) → Emits d d Nothing
 emits_none d = record { grows = omega arith; same = refl; strings = sym (append-nil d.strings); keeps = λ l h. h; made = omega arith; back = λ x fits. fits; meant = λ x fits low. refl }

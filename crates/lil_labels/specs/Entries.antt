@@ -2,7 +2,8 @@
 use Rattle.std.proofs.Common.{◌≡◌, ℕ, zero, suc, ◌+◌, ◌<◌, ◌≤◌, List, [], ◌∷◌, ◌++◌, length, Option, Some, None, refl, sym, ap, ◌∙◌, subst, arith, length-append}
 use Rattle.std.specs.Prelude.{slice_get}
 use Rattle.std.proofs.lemmas.Option.{none-some, same_Some, slice_get_past}
-use Rattle.lil_resolved.specs.{declared.shapes.RShape.RShape, Kinds.{Shape, Absent, words, shape_by, shape_at}, Views.{shape_with, shapes_behind, shapes_of, IsMeasuredShape, AreMeasured}}
+use Rattle.lil_resolved.specs.{declared.{shapes.RShape.RShape, resolved.{RDeclared.RDeclared, RPassing.RPassing}}, Kinds.{Shape, Absent, words, shape_by, shape_at}, Views.{shape_with, shapes_behind, shapes_of, held_by, shape_declared, IsMeasuredShape, AreMeasured}}
+use Rattle.lil_resolved.specs.declared.resolved.RPassing.TheVariants as p
 
 pub get_front : {A : Type 0} (xs ys : List A) (n : ℕ) → n < length xs → slice_get (xs ++ ys) n ≡ slice_get xs n
 get_front [] ys n h = absurd (omega arith)
@@ -74,3 +75,11 @@ small_at ts n h = by (slice_get ts n) refl
     by : (o : Option RShape) → slice_get ts n ≡ o → words (shape_at (shapes_of ts) n) ≤ 32000
     by None e = omega (arith, ap words (absent ts n e))
     by (Some t) e = let found = entry ts n t h e in omega (arith, ap words found.is, found.small)
+
+-- nor does what a variable holds
+pub small_declared : (ts : List RShape) (v : RDeclared) → AreMeasured [] ts → words (shape_declared ts v) ≤ 32000
+small_declared ts v h = by v.passing (shape_at (shapes_of ts) v.shape) (small_at ts v.shape h)
+  where
+    by : (p : RPassing) (t : Shape) → words t ≤ 32000 → words (held_by p t) ≤ 32000
+    by p.ByValue t h = h
+    by p.ByPlace t h = omega arith

@@ -40,7 +40,7 @@ declared_at t (OfLevel n x) = slice_get (locals_in (heading_out t.procedures t.o
 
 -- what names elsewhere need of a procedure
 abbrev pub outline_with : List RShape → RHeading → Outline
-outline_with ts h = record { around = h.around; locals = locals_of ts h }
+outline_with ts h = record { around = h.around; locals = locals_of ts h; parameters = h.parameters }
 
 -- where a variable lies, and the number of its shape; zeros where there is none
 abbrev pub variable_by : Option RDeclared → RField

@@ -1,15 +1,15 @@
 -- From a program module that is loaded alone.
-use Rattle.std.proofs.Common.{◌≡◌, ℕ, zero, suc, ◌+◌, ◌*◌, ◌<◌, ◌≤◌, inl, inr, ⊎_elim, true, Option, Some, None, List, [], ◌∷◌, length, refl, sym, ap, ◌∙◌, arith}
-use Rattle.std.specs.Prelude.{nat_le, slice_get}
+use Rattle.std.proofs.Common.{◌≡◌, ℕ, zero, suc, ◌+◌, ◌*◌, ◌<◌, ◌≤◌, inl, inr, true, Some, List, [], ◌∷◌, length, refl, sym, ap, ◌∙◌, arith}
+use Rattle.std.specs.Prelude.{nat_le}
 use Rattle.std.proofs.lemmas.{Bool.le-leb, Option.{none-some, same_Some}}
 use Rattle.lil_base.specs.declared.fault.{TrapKind.TrapKind, LimitKind.LimitKind}
 use Rattle.lil_base.specs.declared.fault.LimitKind.TheVariants as limit
-use Rattle.lil_resolved.specs.{Kinds.all_words, Resolved.{Procedure, Resolved}, Sizes.{frame_words, IsSmall}}
+use Rattle.lil_resolved.specs.{Kinds.all_words, Resolved.{Resolved}, Sizes.{frame_words, IsSmall}}
 use Rattle.lil_meaning.specs.{World.World, Items.{Phase, Trapped, Source}, Steps.next, Runs.{begun, state_of}}
 use Rattle.lil_mcode.specs.Table.{Module, State, module_at}
 use Rattle.lil_table.specs.{Rows.Translates, Lengths.body_small}
 use Rattle.lil_match.specs.{Goes.Short, Running.{mrun, running}, Parts.yes}
-use Rattle.lil_laws.specs.{Loading.{Compiled, IsSpent, named_entries, entry_for, table_from, image, loaded}, Whole.{TrapsIn, Unlimited, Agrees, agrees_more}, Reaching.Reaches, Start.Body}
+use Rattle.lil_laws.specs.{Loading.{Compiled, IsSpent, entry_for, table_from, image, loaded}, Whole.{TrapsIn, Unlimited, Agrees, agrees_more}, Reaching.Reaches, Start.Body}
 use Rattle.lil_laws.specs.Start as all
 
 module _ (p : Resolved) (strings entries code : List ℕ) (small : IsSmall p strings) (t : Translates p strings entries code) where

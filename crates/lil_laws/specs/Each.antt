@@ -1,14 +1,14 @@
 -- One step of the source, from any matched state.
-use Rattle.std.proofs.Common.{◌≡◌, ℕ, ◌+◌, true, false, List, [], ◌∷◌, refl, ◌⊎◌, ⊎_elim, arith}
+use Rattle.std.proofs.Common.{◌≡◌, ℕ, ◌+◌, true, false, List, [], ◌∷◌, refl, sym, ◌⊎◌, ⊎_elim, arith}
 use Rattle.std.specs.Prelude.{ℤ}
-use Rattle.lil_resolved.specs.{Kinds.{Kind, Scalar, within}, Resolved.{Named, Designator, Variable, Held, Field, Element, Follow, Expression, Constant, Taken, One, Two, Short, Apply, With, WithSpan, Assign, Copy, Text, Inside, Change, Member, New, Allocate, Request, If, Case, While, Repeat, Loop, Exit, Halt, Return, Call, For, Statements}}
-use Rattle.lil_meaning.specs.Items.{Place, Scalars, Places, Wholes, Opens, Texts, Hole, Get, Part, IndexBy, IndexAt, Pointed, SetTo, StoreAt, CopyTo, CopyFrom, TextTo, NewAt, AllocateBy, AllocateAt, ChangeBy, ChangeAt, OneOf, LeftOf, RightOf, ShortOf, ApplyTo, WithMember, MemberOf, WithMembers, MembersFrom, MembersTo, MemberBy, MemberAt, Pass, PassArray, Choose, Turn, Again, Pick, Hold, StartOf, LimitOf, Task, Do, Passing, Until, Looping, Turns, Holding, End, Item, Value, Evaluate, PlaceOf, Fill, Perform, Source}
+use Rattle.lil_resolved.specs.{Kinds.{Kind, Scalar, within}, Resolved.{Named, Designator, Variable, Handed, Held, Field, Element, Follow, Expression, Constant, Taken, One, Two, Short, Apply, With, WithSpan, Assign, Copy, Text, Inside, Change, Member, New, Allocate, Request, If, Case, While, Repeat, Loop, Exit, Halt, Return, Call, For, Statements, Argument}}
+use Rattle.lil_meaning.specs.Items.{Place, Scalars, Places, Wholes, Opens, Texts, Hole, Get, Part, IndexBy, IndexAt, Pointed, SetTo, StoreAt, CopyTo, CopyFrom, TextTo, NewAt, AllocateBy, AllocateAt, ChangeBy, ChangeAt, OneOf, LeftOf, RightOf, ShortOf, ApplyTo, WithMember, MemberOf, WithMembers, MembersFrom, MembersTo, MemberBy, MemberAt, Requested, Called, Datum, Pass, PassPlace, PassArray, Choose, Turn, Again, Pick, Hold, StartOf, LimitOf, Task, Do, Passing, Until, Looping, Turns, Holding, End, Item, Value, Evaluate, PlaceOf, Fill, Perform, Source}
 use Rattle.lil_mcode.specs.Table.{State, going}
-use Rattle.lil_match.specs.{Homes.{word_for, Refers}, Goes.{Shared, Goes}, Waits.{Setting, frame_of, Mode, Quiet, ValueOf, AtPlace, Around, Reach, AfterJumps, BeginWaits, NextWaits, ItemWaits, RowsOf, Rows, Ahead, Designates, Waiting}, Steps.jumped}
-use Rattle.lil_laws_place.specs.Elements.{variable_goes, held_goes, field_goes, element_goes, follow_goes, pointed_goes, part_goes, index_by_goes, index_at_goes}
+use Rattle.lil_match.specs.{Homes.{word_for, Refers}, Goes.{Shared, Goes}, Waits.{Setting, frame_of, Mode, Quiet, ValueOf, AtPlace, Around, Reach, AfterJumps, BeginWaits, NextWaits, ItemWaits, PendingWaits, RowsOf, Rows, Ahead, Designates, Waiting}, Steps.jumped}
+use Rattle.lil_laws_place.specs.Elements.{variable_goes, handed_goes, held_goes, field_goes, element_goes, follow_goes, pointed_goes, part_goes, index_by_goes, index_at_goes}
 use Rattle.lil_laws_expr.specs.{Expressions.{constant_goes, taken_goes, one_goes, two_goes, short_begins, apply_goes, get_goes, one_of_goes, left_goes, right_goes, short_of_goes, apply_of_goes}, Sets.{with_goes, with_span_goes, with_member_goes, member_of_goes, with_members_goes, members_from_goes, members_to_goes}}
 use Rattle.lil_laws_stmt.specs.{Tasks.{copy_goes, copy_to_goes, copy_from_goes, assign_goes, set_goes, store_goes}, Requests.{request_goes, passing_goes, pass_goes, pass_array_goes, serve_goes}, Strings.{text_goes, text_to_goes}, News.{new_goes, new_at_goes}, Withs.{inside_goes, hold_goes, holding_goes}}
-use Rattle.lil_laws_stmt.specs.{Control.{if_goes, choose_goes, while_goes, turn_goes, repeat_goes, until_goes, again_goes, loop_goes, looping_goes}, Changes.{change_goes, change_by_goes, change_at_goes}, Exits.exit_goes, Calls.call_goes, Members.{member_goes, member_by_goes, member_at_goes}, Ends.{halt_goes, return_goes, end_goes, ended_goes}}
+use Rattle.lil_laws_stmt.specs.{Control.{if_goes, choose_goes, while_goes, turn_goes, repeat_goes, until_goes, again_goes, loop_goes, looping_goes}, Changes.{change_goes, change_by_goes, change_at_goes}, Exits.exit_goes, Calls.{call_goes, argument_goes, given_goes, given_place_goes}, Enters.enter_goes, Members.{member_goes, member_by_goes, member_at_goes}, Ends.{halt_goes, return_goes, end_goes, ended_goes}}
 use Rattle.lil_laws_stmt.specs.{Allocations.{allocate_goes, allocate_by_goes, allocate_at_goes, deallocate_at_goes}, Cases.{case_goes, pick_goes}, Fors.{for_goes, start_goes, limit_goes, next_goes}, Begins.begin_goes}
 
 value_quiet : (k : Kind) → ValueOf k ≡ Quiet → ⊥
@@ -17,6 +17,9 @@ value_quiet k e = cc
 place_quiet : (d : Designator) → AtPlace d ≡ Quiet → ⊥
 place_quiet d e = cc
 
+value_place : (k : Kind) (d : Designator) → ValueOf k ≡ AtPlace d → ⊥
+value_place k d e = cc
+
 module _ (ctx : Setting) where
   open ctx use {library, table, home as h}
   open frame_of ctx use {own, piece, number}
@@ -24,7 +27,7 @@ module _ (ctx : Setting) where
   module _ (s : Source) (k : List Item) (m : State) (c : ℕ) (a : Around) (shared : Shared ctx s m) where
     -- a value goes into a hole
     scalar_step : (v : Scalar) (o : Hole) (kind : Kind) → within kind v ≡ true → Refers h kind v → (below : List ℕ) → m.stack ≡ word_for h v ∷ below
-        → Waiting ctx (Fill o) (Rows ctx k) (ValueOf kind) m.place below c a → Goes ctx s (Value (Scalars v) ∷ Fill o ∷ k) m (c + 32)
+        → ItemWaits ctx (Fill o) k (RowsOf k) (ValueOf kind) m.place below c a → Goes ctx s (Value (Scalars v) ∷ Fill o ∷ k) m (c + 32)
     scalar_step v (IndexAt place j) kind fits refers below is r = index_at_goes ctx s k m c a shared place j v kind fits below is r
     scalar_step v (StoreAt place j) kind fits refers below is r = store_goes ctx s k m c a shared place j v kind fits refers below is r
     scalar_step v (ChangeAt down place j) kind fits refers below is r = change_at_goes ctx s k m c a shared down place j v kind fits below is r
@@ -41,7 +44,9 @@ module _ (ctx : Setting) where
     scalar_step v (MemberAt out place j) kind fits refers below is r = member_at_goes ctx s k m c a shared out place j v kind fits below is r
     scalar_step v (AllocateAt false place) kind fits refers below is r = allocate_at_goes ctx s k m c a shared place v kind fits below is r
     scalar_step v (AllocateAt true place) kind fits refers below is r = deallocate_at_goes ctx s k m c a shared place v kind fits below is r
-    scalar_step v (Pass q j done left) kind fits refers below is r = pass_goes ctx s k m c a shared q j done left v kind fits below is r
+    scalar_step v (Pass (Requested q) j done left) kind fits refers below is r = pass_goes ctx s k m c a shared q j done left v kind fits below is r
+    scalar_step v (Pass (Called x n) j done left) kind fits refers below is r = given_goes ctx s k m c a shared x n j done left v kind fits refers below is r
+    scalar_step v (PassPlace (Called x n) done left) kind fits refers below is r = absurd (value_place kind r.of r.mode)
     scalar_step v (Choose first second) kind fits refers below is r = choose_goes ctx s k m c a shared first second v kind fits below is r
     scalar_step v (Turn e body) kind fits refers below is r = turn_goes ctx s k m c a shared e body v kind fits below is r
     scalar_step v (Again body e) kind fits refers below is r = again_goes ctx s k m c a shared body e v kind fits below is r
@@ -52,7 +57,7 @@ module _ (ctx : Setting) where
 
     -- a place goes into a hole
     place_step : (place : Place) (o : Hole) (d : Designator) (below : List ℕ) → Designates ctx d place m.stack below
-        → Waiting ctx (Fill o) (Rows ctx k) (AtPlace d) m.place below c a → Goes ctx s (Value (Places place) ∷ Fill o ∷ k) m (c + 32)
+        → ItemWaits ctx (Fill o) k (RowsOf k) (AtPlace d) m.place below c a → Goes ctx s (Value (Places place) ∷ Fill o ∷ k) m (c + 32)
     place_step place Get d below has r = get_goes ctx s k m c a shared place d below has r
     place_step place (Part i) d below has r = part_goes ctx s k m c a shared place i d below has r
     place_step place (IndexBy j e) d below has r = index_by_goes ctx s k m c a shared place j e d below has r
@@ -63,7 +68,9 @@ module _ (ctx : Setting) where
     place_step place (NewAt n) d below has r = new_at_goes ctx s k m c a shared n place d below has r
     place_step place (AllocateBy back e) d below has r = allocate_by_goes ctx s k m c a shared back e place d below has r
     place_step place (TextTo cs) d below has r = text_to_goes ctx s k m c a shared cs place d below has r
-    place_step place (PassArray q high done left) d below has r = pass_array_goes ctx s k m c a shared q high done left place d below has r
+    place_step place (PassArray (Requested q) high done left) d below has r = pass_array_goes ctx s k m c a shared q high done left place d below has r
+    place_step place (PassPlace (Called x n) done left) d below has r = given_place_goes ctx s k m c a shared x n done left place d below has r
+    place_step place (Pass (Called x n) j done left) d below has r = absurd (value_place r.from d (sym r.mode))
     place_step place (Hold body) d below has r = hold_goes ctx s k m c a shared body place d below has r
     place_step place (MemberBy out j e) d below has r = member_by_goes ctx s k m c a shared out j e place d below has r
     place_step place (ChangeBy down j e) d below has r = change_by_goes ctx s k m c a shared down j e place d below has r
@@ -71,6 +78,7 @@ module _ (ctx : Setting) where
 
     designator_step : (d : Designator) → Waiting ctx (PlaceOf d) (Rows ctx k) Quiet m.place m.stack c a → Goes ctx s (PlaceOf d ∷ k) m (c + 32)
     designator_step (Variable x) r = variable_goes ctx s k m c a shared x r
+    designator_step (Handed n x) r = handed_goes ctx s k m c a shared n x r
     designator_step (Held w) r = held_goes ctx s k m c a shared w r
     designator_step (Field d i) r = field_goes ctx s k m c a shared d i r
     designator_step (Element d kind e) r = element_goes ctx s k m c a shared d kind e r
@@ -104,10 +112,11 @@ module _ (ctx : Setting) where
     task_step (Do Exit) r = exit_goes ctx s k m c a shared r
     task_step (Do Halt) r = halt_goes ctx s k m c a shared r
     task_step (Do Return) r = return_goes ctx s k m c a shared r
-    task_step (Do (Call x n)) r = call_goes ctx s k m c a shared x n r
+    task_step (Do (Call x n given)) r = call_goes ctx s k m c a shared x n given r
     task_step (Do (For x kind e f step body)) r = for_goes ctx s k m c a shared x kind e f step body r
-    task_step (Passing q done []) r = serve_goes ctx s k m c a shared q done r
-    task_step (Passing q done (x ∷ left)) r = passing_goes ctx s k m c a shared q done x left r
+    task_step (Passing (Requested q) done []) r = serve_goes ctx s k m c a shared q done r
+    task_step (Passing (Requested q) done (x ∷ left)) r = passing_goes ctx s k m c a shared q done x left r
+    task_step (Passing (Called x n) done left) r = absurd r.part
     task_step (Until body e) r = until_goes ctx s k m c a shared body e r
     task_step (Looping body) r = looping_goes ctx s k m c a shared body r
     task_step (Turns x kind z step left body) r =
@@ -137,7 +146,7 @@ module _ (ctx : Setting) where
   value_row : (s : Source) (m : State) (c : ℕ) (a : Around) → Shared ctx s m → (v : Scalar) (i : Item) (k : List Item)
       → Waiting ctx (Value (Scalars v)) (Rows ctx (i ∷ k)) Quiet m.place m.stack c a → Goes ctx s (Value (Scalars v) ∷ i ∷ k) m (c + 32)
   value_row s m c a shared v (Fill o) k r =
-      from_there s m c a shared (Value (Scalars v) ∷ Fill o ∷ k) (Waiting ctx (Fill o) (Rows ctx k)) (ValueOf r.part.kind) r.part.below r.then
+      from_there s m c a shared (Value (Scalars v) ∷ Fill o ∷ k) (ItemWaits ctx (Fill o) k (RowsOf k)) (ValueOf r.part.kind) r.part.below r.then
       (scalar_step s k (going m r.then.start m.stack) r.then.later a shared v o r.part.kind r.part.fits r.part.refers r.part.below r.part.is r.then.there)
   value_row s m c a shared v (Perform t) k r = absurd (no_task t k (ValueOf r.part.kind) _ _ _ _ (value_quiet r.part.kind) r.then.there)
   value_row s m c a shared v i k r = absurd r.then.there.part
@@ -145,7 +154,7 @@ module _ (ctx : Setting) where
   place_row : (s : Source) (m : State) (c : ℕ) (a : Around) → Shared ctx s m → (place : Place) (i : Item) (k : List Item)
       → Waiting ctx (Value (Places place)) (Rows ctx (i ∷ k)) Quiet m.place m.stack c a → Goes ctx s (Value (Places place) ∷ i ∷ k) m (c + 32)
   place_row s m c a shared place (Fill o) k r =
-      from_there s m c a shared (Value (Places place) ∷ Fill o ∷ k) (Waiting ctx (Fill o) (Rows ctx k)) (AtPlace r.part.of) r.part.below r.then
+      from_there s m c a shared (Value (Places place) ∷ Fill o ∷ k) (ItemWaits ctx (Fill o) k (RowsOf k)) (AtPlace r.part.of) r.part.below r.then
       (place_step s k (going m r.then.start m.stack) r.then.later a shared place o r.part.of r.part.below r.part.has r.then.there)
   place_row s m c a shared place (Perform t) k r = absurd (no_task t k (AtPlace r.part.of) _ _ _ _ (place_quiet r.part.of) r.then.there)
   place_row s m c a shared place i k r = absurd r.then.there.part
@@ -160,14 +169,25 @@ module _ (ctx : Setting) where
   item_step s m c a shared (Value (Texts cs)) k r = absurd r.part
   item_step s m c a shared (Evaluate e) k r = expression_step s k m c a shared e r
   item_step s m c a shared (PlaceOf d) k r = designator_step s k m c a shared d r
+  item_step s m c a shared (Fill (Pass (Called x n) j done left)) k r = absurd (value_quiet r.from (sym r.mode))
+  item_step s m c a shared (Fill (PassPlace (Called x n) done left)) k r = absurd (place_quiet r.of (sym r.mode))
   item_step s m c a shared (Fill o) k r = absurd r.part
   item_step s m c a shared (Perform t) k r = task_step s k m c a shared t r
   item_step s m c a shared _ _ r = absurd r.then
+
+  -- a call whose next argument is at hand, or which has them all
+  pending_step : (s : Source) (m : State) (c : ℕ) (a : Around) → Shared ctx s m → (x n : ℕ) (done : List Datum) (left : List Argument) (k : List Item)
+      → PendingWaits ctx x n done left (RowsOf k) Quiet m.place m.stack c a → Goes ctx s (Perform (Passing (Called x n) done left) ∷ k) m (c + 32)
+  pending_step s m c a shared x n done [] k r = enter_goes ctx s k m c a shared x n done r
+  pending_step s m c a shared x n done (y ∷ left) k r = argument_goes ctx s k m c a shared x n done y left r
 
   -- THE STEP
   pub each_step : (s : Source) (m : State) (c : ℕ) (a : Around) → Shared ctx s m → (k : List Item)
       → Ahead ctx k Quiet m.place m.stack c a → Goes ctx s k m (c + 32)
   each_step s m c a shared [] r = ended_goes ctx s m c a shared r
+  each_step s m c a shared (Perform (Passing (Called x n) done left) ∷ k) r =
+      from_there s m c a shared (Perform (Passing (Called x n) done left) ∷ k) (PendingWaits ctx x n done left (RowsOf k)) Quiet m.stack r
+      (pending_step s (going m r.start m.stack) r.later a shared x n done left k r.there)
   each_step s m c a shared (i ∷ k) r =
       from_there s m c a shared (i ∷ k) (ItemWaits ctx i k (RowsOf k)) Quiet m.stack r
       (item_step s (going m r.start m.stack) r.later a shared i k r.there)

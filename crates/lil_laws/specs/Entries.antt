@@ -3,7 +3,7 @@ use Rattle.std.proofs.Common.{◌≡◌, ℕ, zero, suc, ◌+◌, ◌<◌, ◌�
 use Rattle.std.specs.{Prelude.{slice_get}, List.All}
 use Rattle.std.proofs.lemmas.Option.{none-some, same_Some}
 use Rattle.lil_resolved.specs.Resolved.{Procedure, Resolved, procedure_by}
-use Rattle.lil_table.specs.{Rows.{Layout, in_procedure, layout_of, FramedRow, StretchRow, ProceduresAt, Translates}, Lengths.{framed_long, procedures_long}}
+use Rattle.lil_table.specs.{Rows.{Layout, in_procedure, layout_of, StretchRow, ProceduresAt, Translates}, Lengths.{framed_long, procedures_long}}
 use Rattle.lil_match.specs.Goes.{IsApart}
 use Rattle.lil_laws.specs.Loading.{Compiled, named_entries, procedure_table}
 

@@ -1,4 +1,5 @@
 -- The machine after modules were loaded: their data from word 1 one behind another, and the first body begun.
+use Rattle.lil_meaning.specs.Need.{HasCalls}
 use Rattle.std.specs.Prelude.{◌≡◌, ◌⊎◌, true, ℕ, suc, ◌+◌, ◌<◌, List, [], ◌∷◌, length, Option, None, Some}
 use Rattle.lil_base.specs.declared.fault.LimitKind.{LimitKind}
 use Rattle.lil_base.specs.declared.fault.LimitKind.TheVariants as limit
@@ -77,9 +78,9 @@ image os first rest = record {
 
 -- ---- a program module that is loaded alone
 -- A state that comes to a limit of words: data, the calls of the next state with a whole expression stack and its length each, and its objects
--- and workspaces take more words than the store has. That of the stack comes only where a call began an activation.
+-- and workspaces take more words than the store has. That of the stack comes only where a call has begun.
 pub record IsSpent (p : Resolved) (strings : List ℕ) (k : LimitKind) (t : Source) : Type 0 where
-  pub kind : ((k ≡ limit.Stack) × (1 < length (next (p ∷ []) t).activations)) ⊎ (k ≡ limit.Store)
+  pub kind : ((k ≡ limit.Stack) × HasCalls (p ∷ []) (next (p ∷ []) t)) ⊎ (k ≡ limit.Store)
   pub short : 65535 < 1 + (all_words p.variables + length strings) + chain_of (p ∷ []) (next (p ∷ []) t) + heap_words (next (p ∷ []) t).objects (next (p ∷ []) t).workspaces
 
 abbrev pub loaded : Resolved → (strings entries code : List ℕ) → Machine

@@ -1,11 +1,11 @@
 -- What one step of the meaning changes of the world, of the levels and of the activations.
-use Rattle.std.proofs.Common.{◌≡◌, ◌⊎◌, inl, inr, ℕ, zero, suc, Bool, true, false, if◌then◌else◌, List, [], ◌∷◌, Result, Ok, Err, Option, Some, None, refl, sym, ap, ◌∙◌, option_and_then}
+use Rattle.std.proofs.Common.{◌≡◌, ◌⊎◌, inl, inr, ℕ, zero, suc, Bool, true, false, if◌then◌else◌, List, [], ◌∷◌, Result, Ok, Err, Option, Some, None, length, ◌≤◌, refl, sym, ap, arith, ◌∙◌, option_and_then}
 use Rattle.std.specs.Prelude.{ℤ, map, slice_get}
 use Rattle.lil_base.specs.{Words.Cardinal, declared.fault.{TrapKind.TrapKind, TrapAt.TrapAt}}
 use Rattle.lil_base.specs.declared.request.Request as request
-use Rattle.lil_resolved.specs.{Kinds.{Kind, OfWhole, nat_of, Scalar, ToObject, within, value_with, ordinal_of}, Resolved.{Named, Designator, Variable, Held, Expression, Taken, Argument, ByValue, OfArray, OfText, Statement, Exit, Call, Statements, Procedure, procedure_by, Resolved, counted_as}}
-use Rattle.lil_meaning.specs.{Items.{Place, got, loaded_at, Datum, Scalars, Places, Hole, Get, StoreAt, ChangeAt, OneOf, RightOf, ApplyTo, Pass, Pick, Task, Do, Passing, Item, Value, Evaluate, PlaceOf, Fill, Perform, Activation, Level, Phase, Going, Closing, Source}, World.{World, Given, serve, closing}}
-use Rattle.lil_meaning.specs.Steps.{next, by_phase, first, given, fill, filled, filled_place, pointed, performed, did, entered, owner_of, procedures_of, current, turned_at, turned_with, turned_on, variable_place, picked, allocated, found_at, placed, passed, evaluated, answered, applied, one_applied, function_value, chosen, stored_with, value_of, changed, whole_of, given_of, level_of, over, left_by, leave}
+use Rattle.lil_resolved.specs.{Kinds.{Kind, OfWhole, nat_of, Scalar, ToObject, within, value_with, ordinal_of}, Resolved.{Named, OfLevel, Designator, Variable, Handed, Held, Expression, Taken, Argument, ByValue, OfPlace, OfArray, OfText, Statement, Exit, Statements, Procedure, procedure_by, Resolved, counted_as}}
+use Rattle.lil_meaning.specs.{Items.{Place, got, loaded_at, Receiver, Requested, Called, Datum, Scalars, Places, Hole, Get, StoreAt, ChangeAt, OneOf, RightOf, ApplyTo, Pass, Pick, Task, Do, Passing, Item, Value, Evaluate, PlaceOf, Fill, Perform, Activation, Level, Phase, Going, Closing, Source}, Need.HasCalls, World.{World, Given, serve, closing}}
+use Rattle.lil_meaning.specs.Steps.{next, by_phase, first, given, fill, filled, filled_place, pointed, performed, did, entered, owner_of, procedures_of, current, turned_at, turned_with, turned_on, variable_place, picked, allocated, found_at, placed, received, passed_on, evaluated, answered, applied, one_applied, function_value, chosen, stored_with, value_of, changed, whole_of, given_of, level_of, over, left_by, leave}
 use Rattle.lil_meaning.specs.Runs.{after}
 use Rattle.lil_meaning.specs.Items as items
 
@@ -96,26 +96,30 @@ module _ (library : List Resolved) (s : Source) where
   fill_serves (Places p) h k = placed_fill h p k
   fill_serves _ h k = still refl refl refl
 
-  entered_serves : (o : Option Procedure) (a : Procedure → Activation) (k : List Item) → (HasNone library → o ≡ None) → Serves library s (entered o a k s)
-  entered_serves None a k none = still refl refl refl
-  entered_serves (Some q) a k none = record { world = inl refl; first = λ e. e; same = λ bare e. (let clash = none bare in cc) }
+  entered_serves : (o : Option Procedure) (a : Procedure → Activation) (done : List Datum) (k : List Item) → (HasNone library → o ≡ None) → Serves library s (entered o a done k s)
+  entered_serves None a done k none = still refl refl refl
+  entered_serves (Some q) a done k none = record { world = inl refl; first = λ e. e; same = λ bare e. (let clash = none bare in cc) }
 
   did_serves : (t : Statement) (k : List Item) → Serves library s (did library t k s)
-  did_serves (Call p n) k =
-      let here : ℕ = owner_of (slice_get s.activations (current k)) in
-      entered_serves (procedure_by (procedures_of (loaded_at library s.loaded here)) p) _ k (λ bare. ap (λ (ps : List Procedure). procedure_by ps p) (bare s.loaded here) ∙ none_by p)
   did_serves Exit k = still refl refl refl
   did_serves _ k = still refl refl refl
 
-  passed_serves : (r : request.Request) (done : List Datum) (left : List Argument) (a : Argument) (k : List Item) → Serves library s (passed r done left a k s)
-  passed_serves r done left (ByValue kind e) k = still refl refl refl
-  passed_serves r done left (OfArray d high) k = still refl refl refl
-  passed_serves r done left (OfText cs) k = still refl refl refl
+  received_serves : (r : Receiver) (done : List Datum) (k : List Item) → Serves library s (received library r done k s)
+  received_serves (Requested r) done k = record { world = inr (inl (r, map (given_of s.cells) done, refl)); first = λ none. none; same = λ bare none. refl }
+  received_serves (Called p n) done k =
+      let here : ℕ = owner_of (slice_get s.activations (current k)) in
+      entered_serves (procedure_by (procedures_of (loaded_at library s.loaded here)) p) _ done k (λ bare. ap (λ (ps : List Procedure). procedure_by ps p) (bare s.loaded here) ∙ none_by p)
+
+  passed_serves : (r : Receiver) (done : List Datum) (left : List Argument) (k : List Item) → Serves library s (passed_on library r done left k s)
+  passed_serves r done [] k = received_serves r done k
+  passed_serves r done (ByValue kind e ∷ left) k = still refl refl refl
+  passed_serves r done (OfPlace d ∷ left) k = still refl refl refl
+  passed_serves r done (OfArray d high ∷ left) k = still refl refl refl
+  passed_serves r done (OfText cs ∷ left) k = still refl refl refl
 
   performed_serves : (t : Task) (k : List Item) → Serves library s (performed library t k s)
   performed_serves (Do t) k = did_serves t k
-  performed_serves (Passing r done []) k = record { world = inr (inl (r, map (given_of s.cells) done, refl)); first = λ none. none; same = λ bare none. refl }
-  performed_serves (Passing r done (a ∷ left)) k = passed_serves r done left a k
+  performed_serves (Passing r done left) k = passed_serves r done left k
   performed_serves (items.Turns x kind z step left body) k = turned_serves x kind z step left body k
   performed_serves _ k = still refl refl refl
 
@@ -133,6 +137,7 @@ module _ (library : List Resolved) (s : Source) where
 
   placed_serves : (d : Designator) (k : List Item) → Serves library s (placed d k s)
   placed_serves (Variable v) k = found_serves (variable_place s v) k
+  placed_serves (Handed n x) k = found_serves (variable_place s (OfLevel n x)) k
   placed_serves (Held w) k = found_serves _ k
   placed_serves _ k = still refl refl refl
 
@@ -173,6 +178,14 @@ after_first library (suc n) s none = after_first library n (next library s) ((ne
 pub after_same : (library : List Resolved) → HasNone library → (n : ℕ) (s : Source) → s.waiting ≡ [] → (after library n s).activations ≡ s.activations
 after_same library bare zero s none = refl
 after_same library bare (suc n) s none = let one = next_serves library s in after_same library bare n (next library s) (one.first none) ∙ one.same bare none
+
+-- and no call is at hand
+pub none_called : (library : List Resolved) → HasNone library → (t : Source) → length t.activations ≤ 1 → HasCalls library t → ⊥
+none_called library bare t few (inl more) = omega (arith, few, more)
+none_called library bare t few (inr c) = none_there (sym (ap (λ (ps : List Procedure). procedure_by ps c.number) (bare t.loaded (owner_of (slice_get t.activations (current t.items)))) ∙ none_by c.number) ∙ c.there)
+  where
+    none_there : None ≡ Some c.its → ⊥
+    none_there e = cc
 
 -- a module without procedures that is loaded alone
 pub none_alone : (p : Resolved) → p.procedures ≡ [] → HasNone (p ∷ [])

@@ -5,7 +5,7 @@ use Rattle.std.specs.List.{list_any}
 use Rattle.std.proofs.lemmas.{Bool.{le-ltb, ne_eqb}, Option.none-some}
 use Rattle.lil_resolved.specs.{Kinds.{Shape, all_words, shape_by, shape_at}, Resolved.{Resolved, procedure_by, outline_of}, Sizes.frame_words}
 use Rattle.lil_meaning.specs.{Items.{loaded_at, variables_of, targets_of, Item, Perform, End, Activation, Source, doing}, World.World, Need.frame_of, Steps.{owner_of, procedure_of, procedures_of, name_of}, Runs.{begun, bodies, body_of, body_activations, src}}
-use Rattle.lil_asm.specs.{declared.instr.Instr.TheVariants.{Ent, Rtn}, Stretches.{stretch, decoded_inside}}
+use Rattle.lil_asm.specs.{declared.instr.Instr.TheVariants.{Rtn}, Stretches.{stretch, decoded_inside}}
 use Rattle.lil_mcode.specs.{declared.machine.Event.TheVariants.Went, Table.{State, enter_row, fetched, performed}}
 use Rattle.lil_frames.specs.Words.{zeros, cleared}
 use Rattle.lil_table.specs.Rows.{framed, in_procedure, layout_of}
@@ -35,6 +35,7 @@ module _ (os : List Compiled) where
     piece = stretch 0 b.its.translates.middle b.its.code;
     layout = layout_of b.its.strings b.its.text;
     at = data_end 1 os;
+    pushed = 0;
     display = [];
     back = 0;
   }
@@ -75,7 +76,7 @@ module _ (os : List Compiled) where
         subst (λ (o : Option Resolved). Rows ctx (doing (body_of o) rest) Quiet t.start [] 0 (outside (frame_for a b))) (sym (text b))
         (body_rows ctx b.its.text.body rest t.start t.end 0 (outside (frame_for a b)) t.body (instr_within (stretch 0 b.its.translates.middle b.its.code) t.end Rtn b.its.translates.middle t.leave)
         (at_once ctx _ Quiet t.end [] 0 (outside (frame_for a b))
-        (record { quiet = refl; empty = refl; activation = refl; alone = refl; free = refl; end = b.its.translates.middle; leave = t.leave; behind = behind })))
+        (record { quiet = refl; empty = refl; activation = refl; alone = refl; free = refl; idle = refl; end = b.its.translates.middle; leave = t.leave; behind = behind })))
 
     rows_of : (a : ℕ) (b : Body os) (bs : List (Body os)) → Rows (setting (frame_for a b) (frames (suc a) bs)) (bodies library loaded a (map number (b ∷ bs))) Quiet b.its.translates.body.start [] 0 (outside (frame_for a b))
     rows_of a b [] = body_at a b [] refl
@@ -86,6 +87,7 @@ module _ (os : List Compiled) where
           low = omega arith;
           plain = refl;
           bare = refl;
+          idle = refl;
           start = c.its.translates.body.start;
           enter = c.its.translates.body.enter;
           then = rows_of (suc a) c bs;
@@ -148,7 +150,7 @@ module _ (os : List Compiled) where
 
     -- bodies have no variables
     no_locals : (a : ℕ) (b : Body os) → slice_get all a ≡ Some (record { owner = suc b.index; procedure = 0; outer = None; slots = [] }) → HasLocals all h (frame_for a b)
-    no_locals a b runs = record { its = record { owner = suc b.index; procedure = 0; outer = None; slots = [] }; runs = runs; slots = refl; variables = λ x o t at. absurd (none-some o at) }
+    no_locals a b runs = record { its = record { owner = suc b.index; procedure = 0; outer = None; slots = [] }; runs = runs; variables = λ x o t at. absurd (none-some o at) }
 
     later_ones : (a n : ℕ) (bs : List (Body os)) → a < n → list_any (is_of a) (frames n bs) ≡ false
     later_ones a n [] less = refl
@@ -240,9 +242,10 @@ module _ (os : List Compiled) (targets : List Shape) (same : Pointing os targets
       known = known os targets same (body_activations order) size entered (omega (arith, room)) placed 0 b refl;
       callers = tt;
       comes = each_comes os targets same (body_activations order) size entered (omega (arith, room)) placed 1 bs (omega arith) (λ i. ap (slice_get (body_activations order)) (let e : 1 + i ≡ suc i = omega arith in e));
-      stands = (record { mark = omega arith; below = omega arith; most = omega arith; own = λ i free l. owner_own targets os size entered (end + i) (omega arith) (omega (arith, l)); mine = λ i l. inl (owner_own targets os size entered (end + i) (omega arith) (omega (arith, l))) }, refl);
+      stands = (record { mark = omega arith; top_is = omega arith; own = λ i free l. owner_own targets os size entered (end + i) (omega arith) (omega (arith, l)); mine = λ i l. inl (owner_own targets os size entered (end + i) (omega arith) (omega (arith, l))) }, refl);
       links = refl;
       locals = each_bare os targets same (body_activations order) size entered (omega (arith, room)) placed 0 (b ∷ bs) (λ i. ap (slice_get (body_activations order)) (let e : 0 + i ≡ i = omega arith in e));
+      handed = (λ y o t at. absurd (none-some o at), tt);
       room = λ a from below. owner_free targets os size entered a (omega (arith, from));
       based = above targets os size entered;
       low = omega (arith, room);

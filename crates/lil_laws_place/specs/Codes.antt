@@ -1,4 +1,8 @@
 -- What the instructions do by which code has a place; a value that is tested, and one that is stored.
+use Rattle.lil_resolved.specs.Kinds.{Pointee, OfPointer, stores_value, same_pointer}
+use Rattle.lil_match.specs.Homes.{plain_word, plain_refers, takes_plain}
+use Rattle.lil_match.specs.Ranges.{pointers_same}
+use Rattle.std.specs.Prelude.{◌||◌}
 use Rattle.std.proofs.Common.{◌≡◌, ℕ, zero, suc, Some, ◌+◌, ◌≤◌, Bool, true, false, cond, List, [], ◌∷◌, set, refl, sym, ap, ◌∙◌, subst, arith, ◌-◌, ◌++◌, length, get_or, take, drop}
 use Rattle.lil_base.specs.declared.fault.TrapKind.{TrapKind}
 use Rattle.lil_base.specs.declared.fault.TrapKind.TheVariants as trap
@@ -26,13 +30,13 @@ module _ (ctx : Setting) where
       omega (arith, place_inside h s.cells m.store place shared.mem (ap is_there has.living ∙ has.there), ap words has.living)
 
   -- ---- in the frame so many static links out
-  frame_at : (s : Source) (m : State) → Shared ctx s m → (n first : ℕ) → slice_get ctx.stack.frame.display n ≡ Some first → frame_out m.store m.frame n ≡ first
+  pub frame_at : (s : Source) (m : State) → Shared ctx s m → (n first : ℕ) → slice_get ctx.stack.frame.display n ≡ Some first → frame_out m.store m.frame n ≡ first
   frame_at s m shared n first shown =
       ap (λ (f : ℕ). frame_out m.store f n) shared.standing.frame_is
       ∙ shown_out h.shadow ctx.activations m.store ctx.stack.frame ctx.stack.callers shared.standing.links
       (λ g among. shared.mem.kept g.at (first_own h.owner ctx.stack.base m.top ctx.stack.frame ctx.stack.callers shared.standing.stands g among)) n first shown
 
-  frame_load : (n o q : ℕ) (m : State) → act (load_code (InFrame n o)) q own m ≡ load_row (frame_out m.store m.frame n + o) q m
+  pub frame_load : (n o q : ℕ) (m : State) → act (load_code (InFrame n o)) q own m ≡ load_row (frame_out m.store m.frame n + o) q m
   frame_load zero o q m = refl
   frame_load (suc n) o q m = refl
 
@@ -339,6 +343,27 @@ module _ (ctx : Setting) where
     tested k j v takes fits below is middle budget rest test close traps goes less =
         let same : within k v ≡ has k (ordinal_of v) = taken_where k j v takes fits in
         number_tested k j v (takes_base k j takes) fits below is middle budget rest test close (λ e. traps (same ∙ e)) (λ e. goes (same ∙ e)) less
+
+    -- The same of a value that may be stored: a reference needs none.
+    pub stored_tested : (k j : Kind) (v : Scalar) → stores_value k j ≡ true → within j v ≡ true → Refers h j v → (below : List ℕ) → stack ≡ word_for h v ∷ below
+        → (middle budget rest : ℕ) → InstrsAt piece (test_code k j) p middle → current items ≡ ctx.stack.frame.activation
+        → (within k v ≡ false → next library Now ≡ trapped library Now trap.Range)
+        → (within k v ≡ true → Refers h k v → Goes ctx s items (going m middle stack) rest) → rest + 1 ≤ budget → Goes ctx s items here budget
+    stored_tested k j v stores fits refers below is middle budget rest test close traps goes less = by (takes_value k j) refl stores
+      where
+        reference : (n : Pointee) × (k ≡ OfPointer n) × (j ≡ OfPointer n) → Goes ctx s items here budget
+        reference (n, one, other) =
+            let same : j ≡ k = other ∙ sym one in
+            let stays : p ≡ middle = subst (λ (i : Kind). InstrsAt piece (test_code i (OfPointer n)) p middle) one (subst (λ (i : Kind). InstrsAt piece (test_code k i) p middle) other test) in
+            goes_more ctx s items here rest budget
+            (subst (λ (i : ℕ). Goes ctx s items (going m i stack) rest) (sym stays) (goes (ap (λ (i : Kind). within i v) (sym same) ∙ fits) (subst (λ (i : Kind). Refers h i v) same refers)))
+            (omega (arith, less))
+
+        by : (b : Bool) → takes_value k j ≡ b → (b || same_pointer k j) ≡ true → Goes ctx s items here budget
+        by true takes stores =
+            tested k j v takes fits below (is ∙ ap (λ (w : ℕ). w ∷ below) (plain_word h j v (takes_plain k j takes).1 fits)) middle budget rest test close traps
+            (λ e. goes e (plain_refers h k v (takes_plain k j takes).0)) less
+        by false takes stores = reference (pointers_same k j stores)
 
     -- a value of the kind of a place is stored there
     pub stored_goes : (b : Access) (place : Place) (k : Kind) (under : List ℕ) → HasPlace ctx b place (Word k) under [] → readied b ≡ b → (v : Scalar) → within k v ≡ true → Refers h k v

@@ -166,7 +166,7 @@ module _ (ctx : Setting) where
           goes_short less =
               block.goes_short ctx s items k m c a shared place low n row.part.amid.here.middle row.part.amid.here.by.0 row.part.amid.here.by.1
               (ap (λ (t : Source). heap_words t.objects t.workspaces) becomes ∙ (let e : heap_words s.objects workspaces ≡ heap_words s.objects s.workspaces + (n + 2) = omega (arith, more) in e))
-              (ap (chain_of library) becomes ∙ shared_cost ctx s m shared k _ _ _ _ _ row.then)
+              (let same = ap (chain_of library) becomes in omega (arith, same, shared_cost ctx s m shared k _ _ _ _ _ row.then))
               less
 
           module _ (room : n + 2 ≤ m.limit - m.top) where

@@ -9,7 +9,7 @@ use Rattle.lil_mcode.specs.{declared.machine.Event.{Event, TheVariants.Went}, Ta
 use Rattle.lil_frames.specs.Words.{zeros, cleared}
 use Rattle.lil_table.specs.Rows.{IsAt}
 use Rattle.lil_match.specs.{Goes.{OwnWords, IsHeap, IsUnborn, Shared, Lands, Goes}, Running.running, Parts.{yes, no}, Splices.{spliced_length, spliced_before, spliced_there, spliced_after, zeros_length, zeros_word}, Homes.{Fixed, Free, Home, Extends, lives, address, Mem}, Costs.{cost_of, top_low}, Waits.{frames_of, Setting, frame_of, moved, Quiet, Around, Rows}}
-use Rattle.lil_match.specs.{Known.{known_kept, each_known, each_comes, each_local}, Kept.{first_words, stack_above, stands_kept, chained_kept, rows_kept}, Steps.{advances, at_step, rows_ahead, goes_one_in, goes_full}}
+use Rattle.lil_match.specs.{Known.{known_kept, each_known, each_comes, each_local}, Kept.{first_words, each_handed, stack_above, stands_kept, chained_kept, rows_kept}, Steps.{advances, at_step, rows_ahead, goes_one_in, goes_full}}
 use Rattle.lil_laws_stmt.specs.Painting.{free_fixed}
 
 module _ (ctx : Setting) where
@@ -39,7 +39,7 @@ module _ (ctx : Setting) where
     takes = at_step ctx taking shared.program Alc end row
 
     -- ---- without room
-    pub goes_short : heap_words (next library now).objects (next library now).workspaces ≡ heap_words s.objects s.workspaces + (words + 2) → chain_of library (next library now) ≡ cost_of (ctx.stack.frame ∷ ctx.stack.callers) → m.limit - m.top < words + 2
+    pub goes_short : heap_words (next library now).objects (next library now).workspaces ≡ heap_words s.objects s.workspaces + (words + 2) → cost_of (ctx.stack.frame ∷ ctx.stack.callers) ≤ chain_of library (next library now) → m.limit - m.top < words + 2
         → Goes ctx s items (going m start (words ∷ address h place ∷ [])) (c + 1)
     goes_short more calls less =
         goes_full ctx s items taking (c + 1) limit.Store
@@ -115,7 +115,7 @@ module _ (ctx : Setting) where
             ∙ ap (λ (i : ℕ). let e : Event × State = (Went, record m { place = end; stack = []; limit = m.limit - (words + 2); store = set (cleared m.store (i - words) i) (address h place) (i - words) }) in e) shared.standing.limit_is
 
         based : st.base ≤ m.top
-        based = omega (arith, (stack_above ctx (stack_of m) shared.standing).0, words_here.below)
+        based = omega (arith, (stack_above ctx (stack_of m) shared.standing).0, words_here.top_is)
 
         pub goes_roomy : Goes ctx s items (going m start (words ∷ address h place ∷ [])) (c + 1)
         goes_roomy =
@@ -143,6 +143,8 @@ module _ (ctx : Setting) where
                     stands = stands_kept h.owner x.owner st.base m.top st.frame st.callers (λ i from less. filled.owner i (inl (omega (arith, less, roomy)))) g.stands;
                     links = chained_kept h.shadow x.shadow ctx.activations ctx.activations (λ i b e. e) h.owner st.base m.top st.frame st.callers g.stands (λ i from below. filled.shadow i) g.links;
                     locals = each_local ctx.activations ctx.activations (λ i b e. e) h x (frames_of ctx.stack) (λ r seen. filled.base r) (λ r seen. filled.shape r) g.locals;
+                    handed = each_handed ctx.activations ctx.activations (λ i b e. e) h x st.bodies st.base m.top st.frame st.callers g.stands
+                        (λ i from less. (filled.owner i (inl (omega (arith, less, words_here.mark, words_here.top_is, roomy))), filled.shadow i)) (λ r seen. filled.base r) (λ r seen. filled.shape r) g.handed;
                     room = λ i from less. filled.owner i (inl (omega (arith, less, roomy))) ∙ g.room i from (omega (arith, less, roomy));
                     based = g.based;
                     low = omega (arith, roomy);
@@ -157,7 +159,7 @@ module _ (ctx : Setting) where
                 around = a;
                 ahead = rows_ahead moving k end [] c a
                     (rows_kept k ctx x lower (st.base + 4) (stack_above ctx (stack_of m) g).1 Quiet end [] c a
-                    (record { shadow = λ i from less. filled.shadow i; base = λ r e. filled.base r; shape = λ r e. filled.shape r; targets = filled.targets; workspaces = filled.spaces })
+                    (record { pushed = λ i less. filled.shadow (st.frame.at + (st.frame.layout.frame + i)); shadow = λ i from less. filled.shadow i; base = λ r e. filled.base r; shape = λ r e. filled.shape r; targets = filled.targets; workspaces = filled.spaces })
                     then);
               };
             }))

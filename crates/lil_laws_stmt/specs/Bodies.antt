@@ -3,13 +3,14 @@ use Rattle.std.proofs.Common.{◌≡◌, ℕ, ◌+◌, ◌-◌, ◌<◌, ◌≤�
 use Rattle.std.specs.List.{list_any}
 use Rattle.std.proofs.lemmas.{Bool.{le-ltb, lt-ltb, cases_lt}, Option.slice_get_within}
 use Rattle.lil_base.specs.declared.fault.LimitKind.TheVariants as limit
-use Rattle.lil_meaning.specs.{Items.{End, Item, Perform, Activation, Going, Source}, Need.chain}
+use Rattle.lil_resolved.specs.{Kinds.{Address}, Plain.parameter_variable}
+use Rattle.lil_meaning.specs.{Items.{End, Item, Perform, Activation, Going, Source}, Need.{HasCalls, chain}}
 use Rattle.lil_asm.specs.declared.instr.Instr.TheVariants.{Ent, Rtn}
 use Rattle.lil_mcode.specs.{declared.machine.Event.TheVariants.Went, Table.{Module, State, stack_of, module_at, mstep, end_row, body_row, begun_body, enter_row}}
 use Rattle.lil_frames.specs.Words.{zeros, cleared}
 use Rattle.lil_table.specs.Rows.{IsAt, framed}
 use Rattle.lil_match.specs.{Goes.{OwnWords, Linked, Comes, Shared, IsShort, Goes, number_of}, Running.{running, advanced}, Parts.{yes, no}, Homes.{Own, Fixed, Free, Home, extends_self, Mem, Ours, Stays, Turns, mem_turned, fixed_turned}, Splices.{spliced_length, spliced_before, spliced_after, zeros_length}, Costs.{known_costs, items_cost}}
-use Rattle.lil_match.specs.{Waits.{Quiet, own_words, is_of, outside, Frame, Setting, at_home, with_frames, RowsOf, NextBody}, Known.{or_later, known_kept, each_comes, each_local}, Kept.{all_above, rows_kept}, Steps.{advances, at_step, rows_ahead, goes_one_in, goes_full, goes_after}}
+use Rattle.lil_match.specs.{Waits.{Quiet, own_words, locals_in, is_of, outside, Frame, Setting, at_home, with_frames, RowsOf, NextBody}, Known.{or_later, known_kept, each_comes, each_local}, Kept.{all_above, offset_low, rows_kept}, Steps.{advances, at_step, rows_ahead, goes_one_in, goes_full, goes_after}}
 use Rattle.lil_laws_stmt.specs.Painting.{own_free, painted, painted_there, painted_beside, Side, Before, Between, Behind', side}
 
 module _ (ctx : Setting) (f b : Frame) (bs : List Frame) where
@@ -75,17 +76,17 @@ module _ (ctx : Setting) (f b : Frame) (bs : List Frame) where
         (short, more) (omega arith))
         (omega arith)) (cases_lt m.limit (m.base + 4))
       where
-        calls : chain ctx.library s.loaded s.activations k ≡ (b.layout.frame + 17) + 0
+        calls : b.layout.frame + 17 ≤ chain ctx.library s.loaded s.activations k
         calls =
-            ap (λ (l : List ℕ). chain ctx.library l s.activations k) shared.loaded_are
-            ∙ ap (λ (acts : List Activation). chain ctx.library ctx.loaded acts k) shared.activations_are
-            ∙ items_cost beginning k Quiet next.start [] c (outside b) next.then (known_costs ctx.library ctx.loaded ctx.table ctx.activations ctx.home b comes.known, tt)
+            let same : chain ctx.library s.loaded s.activations k ≡ chain ctx.library ctx.loaded ctx.activations k =
+            ap (λ (l : List ℕ). chain ctx.library l s.activations k) shared.loaded_are ∙ ap (λ (acts : List Activation). chain ctx.library ctx.loaded acts k) shared.activations_are in
+            omega (arith, same, next.idle, items_cost beginning k Quiet next.start [] c (outside b) next.then (known_costs ctx.library ctx.loaded ctx.table ctx.activations ctx.home b comes.known, tt))
 
         short : IsShort ctx.library ctx.stack.base (record s { items = k; phase = Going })
         short = record { less = omega (arith, less, shared.heap.rest, comes.at, calls) }
 
-        more : 1 < length s.activations
-        more = omega (arith, comes.later, slice_get_within ctx.activations b.activation comes.known.its comes.known.runs, ap length shared.activations_are)
+        more : HasCalls ctx.library (record s { items = k; phase = Going })
+        more = inl (omega (arith, comes.later, slice_get_within ctx.activations b.activation comes.known.its comes.known.runs, ap length shared.activations_are))
 
     -- ---- with room
     module _ (room : b.at + b.layout.frame ≤ ctx.stack.limit) where
@@ -201,9 +202,10 @@ module _ (ctx : Setting) (f b : Frame) (bs : List Frame) where
                   known = known_kept ctx.library ctx.loaded ctx.table ctx.activations ctx.activations (λ i b e. e) h x (λ n y. refl) (λ n y. refl) refl fixed_kept b comes.known;
                   callers = tt;
                   comes = each_comes ctx.library ctx.loaded ctx.table ctx.activations ctx.activations (λ i b e. e) h x (λ n y. refl) (λ n y. refl) refl fixed_kept ctx.stack.base bs g.comes.1;
-                  stands = (record { mark = omega (arith, comes.mark, next.bare); below = omega (arith, comes.at, g.base_is); most = omega (arith, comes.at, g.base_is); own = λ i z l. owner_own (b.at + i) (omega (arith, comes.at)) (omega (arith, l, g.base_is)); mine = λ i l. inl (owner_own (b.at + i) (omega (arith, comes.at)) (omega (arith, l, g.base_is))) }, comes.at);
+                  stands = (record { mark = omega (arith, comes.mark, next.bare); top_is = omega (arith, comes.at, g.base_is, next.idle); own = λ i z l. owner_own (b.at + i) (omega (arith, comes.at)) (omega (arith, l, g.base_is)); mine = λ i l. inl (owner_own (b.at + i) (omega (arith, comes.at)) (omega (arith, l, g.base_is))) }, comes.at);
                   links = subst (λ (es : List ℕ). Linked x.shadow ctx.activations b.activation b.number b.at b.display es []) (sym comes.chain) comes.display;
                   locals = each_local ctx.activations ctx.activations (λ i b e. e) h x (b ∷ bs) (λ r s e. refl) (λ r s e. refl) g.locals.2;
+                  handed = (λ y o t at typed there. absurd (let low = offset_low 4 (locals_in b) y o (Address t) at (parameter_variable b.layout.scope 0 y (Address t) typed) in omega (arith, low.0, low.1, next.bare)), tt);
                   room = λ a from below. owner_free a (omega (arith, from, g.base_is)) below;
                   based = g.based;
                   low = omega (arith, g.base_is, comes.at, room);
@@ -218,7 +220,7 @@ module _ (ctx : Setting) (f b : Frame) (bs : List Frame) where
               around = outside b;
               ahead = rows_ahead (at_home beginning x) k next.start [] c (outside b)
                   (rows_kept k beginning x ctx.stack.limit (base + 4) (omega (arith, comes.at), (all_above ending (stack_of m) g).1) Quiet next.start [] c (outside b)
-                  (record { shadow = λ a from below. absurd (omega (arith, from, below, comes.at, next.bare)); base = λ r e l. refl; shape = λ r e l. refl; targets = refl; workspaces = extends_self h.workspaces })
+                  (record { pushed = λ i less. absurd (omega (arith, less, next.idle)); shadow = λ a from below. absurd (omega (arith, from, below, comes.at, next.bare)); base = λ r e l. refl; shape = λ r e l. refl; targets = refl; workspaces = extends_self h.workspaces })
                   next.then);
             };
           })

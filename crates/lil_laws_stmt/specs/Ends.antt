@@ -2,12 +2,12 @@
 use Rattle.std.proofs.Common.{◌≡◌, ℕ, suc, ◌+◌, ◌<◌, ◌≤◌, Option, Some, None, List, [], ◌∷◌, map, length, ⊎_elim, refl, sym, ap, ◌∙◌, subst, arith, eq-eqb}
 use Rattle.std.proofs.lemmas.Bool.{cases_lt}
 use Rattle.lil_base.specs.declared.fault.TrapKind.TheVariants as trap
-use Rattle.lil_resolved.specs.{Kinds.Shape, Resolved.{Halt, Return}}
-use Rattle.lil_meaning.specs.{World.{World, closing, all_closed}, Closings.{all_none, all_some}, Items.{Do, Turns, Holding, End, Item, Perform, Level, Going, Closing, Ended, Source}, Steps.{next, returned, left_by, over}}
+use Rattle.lil_resolved.specs.{Kinds.Shape, Resolved.{Argument, Halt, Return}}
+use Rattle.lil_meaning.specs.{World.{World, closing, all_closed}, Closings.{all_none, all_some}, Items.{Datum, Called, Pass, PassPlace, Do, Turns, Holding, End, Item, Fill, Perform, Level, Going, Closing, Ended, Source}, Steps.{next, returned, left_by, over}}
 use Rattle.lil_asm.specs.declared.instr.Instr.TheVariants.{Rtn, Trp}
 use Rattle.lil_mcode.specs.{declared.machine.Event.TheVariants.LevelEnded, Table.{Kept, State, end_row}}
 use Rattle.lil_table.specs.Rows.{IsAt, loop_place}
-use Rattle.lil_match.specs.{Goes.{Stands, number_of, Shared, Lands, Goes}, Running.{Finished, Run, running, advanced}, Parts.yes, Waits.{stutter, Mode, Quiet, Around, outside, Frame, Setting, inside_with, with_frames, RowsOf, Rows, Ahead, Behind, EndWaits, EndedWaits, Waiting}, Steps.{closed, advances, at_step, lands_on, goes_more, goes_as, goes_none, goes_one_within}}
+use Rattle.lil_match.specs.{Goes.{Stands, number_of, Shared, Lands, Goes}, Running.{Finished, Run, running, advanced}, Parts.yes, Waits.{stutter, Mode, Quiet, Around, outside, Frame, Setting, inside_with, pushing, Pending, with_frames, RowsOf, Rows, Ahead, Behind, EndWaits, EndedWaits, Waiting}, Steps.{closed, advances, at_step, lands_on, goes_more, goes_as, goes_none, goes_one_within}}
 use Rattle.lil_laws_place.specs.Codes.{trap_goes}
 use Rattle.lil_laws_stmt.specs.{Returns.goes_back, Bodies.{goes_next, goes_short}}
 
@@ -97,14 +97,27 @@ sooner ctx rest c later le r = record { later = r.later; less = omega (arith, le
 
 -- it is the same inside of a WITH
 behind_inside : (before : Setting) (t : Shape) (n : ℕ) (k : List Item) (c : ℕ) (gs bs : List Frame) → Behind before k (RowsOf k) c gs bs → Behind (inside_with before t n) k (RowsOf k) c gs bs
-behind_inside before t n k c (g ∷ gs) bs b = record { before = b.before; called = b.called; outer = b.outer; under = b.under; frame = b.frame; place = b.place; module' = b.module'; then = b.then }
-behind_inside before t n k c [] (b ∷ bs) x = record { body = x.body; low = x.low; plain = x.plain; bare = x.bare; start = x.start; enter = x.enter; then = x.then }
+behind_inside before t n k c (g ∷ gs) bs b = record { before = b.before; called = b.called; outer = b.outer; under = b.under; mark = b.mark; pushed = b.pushed; frame = b.frame; place = b.place; module' = b.module'; then = b.then }
+behind_inside before t n k c [] (b ∷ bs) x = record { body = x.body; low = x.low; plain = x.plain; bare = x.bare; idle = x.idle; start = x.start; enter = x.enter; then = x.then }
 behind_inside before t n k c [] [] last = last
 
 returns_inside : (ctx before : Setting) (t : Shape) (n : ℕ) (rest : List Item) (c : ℕ) → ctx ≡ inside_with before t n → Returns before rest c → Returns ctx rest c
 returns_inside ctx before t n rest c is r =
     subst (λ (y : Setting). Returns y rest c) (sym is)
     (record { later = r.later; less = r.less; behind = behind_inside before t n rest r.later before.stack.callers before.stack.bodies r.behind })
+
+-- and during a call's arguments
+behind_pushed : (before : Setting) (n : ℕ) (k : List Item) (c : ℕ) (gs bs : List Frame) → Behind before k (RowsOf k) c gs bs → Behind (pushing before n) k (RowsOf k) c gs bs
+behind_pushed before n k c (g ∷ gs) bs b = record { before = b.before; called = b.called; outer = b.outer; under = b.under; mark = b.mark; pushed = b.pushed; frame = b.frame; place = b.place; module' = b.module'; then = b.then }
+behind_pushed before n k c [] (b ∷ bs) x = record { body = x.body; low = x.low; plain = x.plain; bare = x.bare; idle = x.idle; start = x.start; enter = x.enter; then = x.then }
+behind_pushed before n k c [] [] last = last
+
+returns_pending : (ctx : Setting) (q levels : ℕ) (done : List Datum) (next : List Shape) (left : List Argument) (k : List Item) (p c : ℕ) (a : Around) → Pending ctx q levels done next left (RowsOf k) p c a
+    → ((y : Setting) (p c : ℕ) (a : Around) → Rows y k Quiet p [] c a → Returns y (returned k) c) → Returns ctx (returned k) c
+returns_pending ctx q levels done next left k p c a w rest =
+    let r = rest w.before w.end c w.outer w.then in
+    subst (λ (y : Setting). Returns y (returned k) c) (sym w.is)
+    (record { later = r.later; less = r.less; behind = behind_pushed w.before (4 + length done) (returned k) r.later w.before.stack.callers w.before.stack.bodies r.behind })
 
 -- from the row of any items
 returns : (ctx : Setting) (k : List Item) (t : Mode) (p : ℕ) (stack : List ℕ) (c : ℕ) (a : Around) → Rows ctx k t p stack c a → Returns ctx (returned k) c
@@ -116,6 +129,10 @@ returns ctx (Perform (Holding place) ∷ k) t p stack c a r =
     sooner ctx (returned k) c r.later (omega (arith, r.count))
     (returns_inside ctx w.before w.shape (loop_place w.outer.taken) (returned k) r.later w.is (returns w.before k _ _ _ _ _ w.then))
 returns ctx (Perform (End n) ∷ k) t p stack c a r = record { later = r.later; less = omega (arith, r.count); behind = r.there.behind }
+returns ctx (Fill (Pass (Called q levels) kind done left) ∷ k) t p stack c a r =
+    sooner ctx (returned k) c r.later (omega (arith, r.count)) (returns_pending ctx q levels done _ left k _ r.later a r.there.pending (λ y p c a. returns y k Quiet p [] c a))
+returns ctx (Fill (PassPlace (Called q levels) done left) ∷ k) t p stack c a r =
+    sooner ctx (returned k) c r.later (omega (arith, r.count)) (returns_pending ctx q levels done _ left k _ r.later a r.there.pending (λ y p c a. returns y k Quiet p [] c a))
 returns ctx (i ∷ k) t p stack c a r = sooner ctx (returned k) c r.later (omega (arith, r.count)) (returns ctx k _ _ _ _ _ r.there.then)
 
 -- RETURN is an end: its own RTN is the frame's, and what is left is behind the first end

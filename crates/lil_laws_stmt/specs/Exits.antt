@@ -2,7 +2,7 @@
 use Rattle.std.proofs.Common.{◌≡◌, ℕ, ◌+◌, ◌<◌, ◌≤◌, inl, inr, Some, None, List, [], ◌∷◌, length, refl, sym, ap, ◌∙◌, subst, arith}
 use Rattle.std.specs.Prelude.{ℤ}
 use Rattle.lil_resolved.specs.{Kinds.{Kind, Shape}, Resolved.{Named, Exit, Statements}}
-use Rattle.lil_meaning.specs.{Items.{Do, Looping, Turns, Holding, End, Item, Perform, Source}, Steps.exited}
+use Rattle.lil_meaning.specs.{Items.{Called, Pass, PassPlace, Do, Looping, Turns, Holding, End, Item, Fill, Perform, Source}, Steps.exited}
 use Rattle.lil_mcode.specs.Table.{State, going}
 use Rattle.lil_table.specs.Rows.{loop_place}
 use Rattle.lil_match.specs.{Goes.{Shared, Goes}, Running.running, Waits.{Setting, inside_with, frame_of, Frame, Mode, Quiet, Around, outside, Reach, TurnsTask, ItemWaits, RowsOf, Rows, Waiting}, Laid.{IsAround, around_self, around_more, shared_around, goes_around}, Steps.jumps_to}
@@ -66,12 +66,18 @@ turns_leave ctx x kind z step left body k rest f t p stack c a (inr r) to known 
 never_none : (f : Frame) (a : Around) (to : ℕ) → a ≡ outside f → a.exit ≡ Some to → ⊥
 never_none f a to is known = let none : None ≡ Some to = sym (ap (λ (o : Around). o.exit) is) ∙ known in cc
 
+-- nor is one around a call's arguments
+pending_none : (a outer : Around) (to : ℕ) → a ≡ record { exit = None; taken = outer.taken } → a.exit ≡ Some to → ⊥
+pending_none a outer to is known = let none : None ≡ Some to = sym (ap (λ (o : Around). o.exit) is) ∙ known in cc
+
 item_leaves : (ctx : Setting) (i : Item) (k : List Item) → ((c : Setting) → Leaving c (exited k) (Rows c k)) → Leaving ctx (exited (i ∷ k)) (ItemWaits ctx i k (RowsOf k))
 item_leaves ctx (Perform (Looping body)) k f t p stack c a r to known = out ctx k to c r.end r.outer a r.is known r.within r.then
 item_leaves ctx (Perform (Turns x kind z step left body)) k f t p stack c a r to known = turns_leave ctx x kind z step left body (exited k) (Rows ctx k) (f ctx) t p stack c a r to known
 item_leaves ctx (Perform (Holding place)) k f t p stack c a r to known =
     out_of_with ctx r.before r.shape (loop_place r.outer.taken) (exited k) to c r.is (f r.before _ _ _ c r.outer r.then to (sym (ap (λ (o : Around). o.exit) r.around) ∙ known))
 item_leaves ctx (Perform (End n)) k f t p stack c a r to known = absurd (never_none ctx.stack.frame a to r.alone known)
+item_leaves ctx (Fill (Pass (Called q levels) kind done left)) k f t p stack c a r to known = absurd (pending_none a r.pending.outer to r.pending.around known)
+item_leaves ctx (Fill (PassPlace (Called q levels) done left)) k f t p stack c a r to known = absurd (pending_none a r.pending.outer to r.pending.around known)
 item_leaves ctx i k f t p stack c a r to known = f ctx _ _ _ c a r.then to known
 
 pub leaves : (k : List Item) (ctx : Setting) → Leaving ctx (exited k) (Rows ctx k)

@@ -8,13 +8,16 @@ pub mod Cases
 pub mod Changes
 pub mod Control
 pub mod Ends
+pub mod Enters
 pub mod Exits
 pub mod ForWords
 pub mod Fors
+pub mod Given
 pub mod Locals
 pub mod Members
 pub mod News
 pub mod Painting
+pub mod Pushes
 pub mod Requests
 pub mod Returns
 pub mod Starts

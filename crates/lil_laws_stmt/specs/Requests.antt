@@ -1,28 +1,28 @@
 -- The rows of requests and of their arguments.
 use Rattle.std.proofs.Common.{◌≡◌, ℕ, zero, suc, ◌+◌, ◌-◌, ◌%◌, ◌<◌, ◌≤◌, Bool, true, false, cond, List, [], ◌∷◌, ◌++◌, length, map, reverse, get_or, take, drop, inl, inr, ◌⊎◌, refl, sym, ap, ◌∙◌, subst, arith, append_assoc}
-use Rattle.std.specs.Prelude.{nat_le, nat_lt}
+use Rattle.std.specs.Prelude.{nat_le, nat_lt, ◌||◌}
 use Rattle.std.proofs.lemmas.{Bool.{le-leb, leb-true, lt-ltb, cases_lt, and_from}, List.{map-append, append-nil, reverse-append, take_all, drop_all, drop_more}}
 use Rattle.lil_base.specs.declared.fault.TrapKind.TheVariants as trap
 use Rattle.lil_base.specs.{Requests.{request_number, request_found, takes_array}, declared.request.Request.{Request, TheVariants.{Write, WriteString, WriteLn, WriteCard, WriteInt, WriteOct, WriteHex}}}
 use Rattle.lil_asm.specs.{Requests.request_words, declared.instr.Instr.TheVariants.{Liw, Lag, Svc}}
-use Rattle.lil_resolved.specs.{Kinds.{Kind, OfCharacter, Scalar, Character, within, scalar_word, Shape, Absent, Word, Row, words, is_there, part_at, offset}, Resolved.{Designator, Argument, ByValue, OfArray, OfText, shape_of}, Sound.{request_parameters, parameter_of, is_text}}
+use Rattle.lil_resolved.specs.{Kinds.{Kind, OfWhole, OfTruth, OfCharacter, OfEnumeration, OfSet, OfPointer, OfRange, is_plain, takes_value, stores_value, Scope, Scalar, Character, within, scalar_word, Shape, Absent, Word, Row, words, is_there, part_at, offset}, Resolved.{Designator, Argument, ByValue, OfPlace, OfArray, OfText, kind_of, shape_of}, Sizes.argument_words, Sound.{request_parameters, parameter_of, is_text}}
 use Rattle.lil_resolved.specs.Resolved as resolved
-use Rattle.lil_meaning.specs.{Items.{Place, part_of, got, Datum, Scalars, Places, Wholes, Opens, Texts, Pass, PassArray, Do, Passing, Item, Value, PlaceOf, Fill, Perform, Going, Source}, World.{World, Given, Single, Characters, characters_at, array_at, given_by, serve}, Steps.{trapped, with_items, character_of, characters_from, as_array, given_of, level_of}}
+use Rattle.lil_meaning.specs.{Items.{Place, part_of, got, Datum, Scalars, Places, Wholes, Opens, Texts, Requested, Pass, PassArray, Do, Passing, Item, Value, PlaceOf, Fill, Perform, Going, Source}, World.{World, Given, Single, Characters, characters_at, array_at, given_by, serve}, Steps.{trapped, with_items, character_of, characters_from, as_array, given_of, level_of}}
 use Rattle.lil_mcode.specs.Table.{State, going, array_lies, request_row}
-use Rattle.lil_table.specs.Rows.{IsAt, ArgumentsAt, HasText, text_words, argument_words, arguments_words, access_of}
+use Rattle.lil_table.specs.Rows.{IsAt, ArgumentsAt, HasText, text_words, arguments_words, access_of}
 use Rattle.lil_match.specs.{Goes.{Shared, Goes, Lands}, Running.{Running, Run, running}, Parts.{yes, no}, Homes.{Home, text_character, word_for, plain_word, takes_plain, address, shape_there, place_inside, part_there}, Waits.stutter}
-use Rattle.lil_match.specs.{Waits.{Setting, frame_of, laid_out, Quiet, ValueOf, AtPlace, Around, Reach, Rows, Designates, is_open, is_array, TakesAll, DatumOn, DataOn, LeftPart, Waiting}, Orders.{instr_within, arguments_within}, Steps.{closed, advances, at_step, at_once, pushes, rows_ahead, lands_on, goes_none, goes_none_within, goes_one, operand_goes}}
+use Rattle.lil_match.specs.{Waits.{Setting, frame_of, laid_out, Quiet, ValueOf, AtPlace, Around, Reach, Rows, Designates, is_open, is_array, AreServed, TakesAll, DatumOn, DataOn, LeftPart, Waiting}, Orders.{instr_within, arguments_within}, Steps.{closed, advances, at_step, at_once, pushes, rows_ahead, lands_on, goes_none, goes_none_within, goes_one, operand_goes}}
 use Rattle.lil_laws_place.specs.Codes.{leads, addressed, tested}
 use Rattle.lil_laws_stmt.specs.{Strings.{string_low, string_word}, Tasks.value_within}
 
 -- ---- which arguments are arrays
 -- one of those that are left is at hand
-forms_more : (r : Request) (done : List Bool) (x : Argument) (left : List Argument) → TakesAll r done (x ∷ left) → TakesAll r (done ++ is_open (parameter_of x) ∷ []) left
-forms_more r done x left t =
-    record { same = t.same ∙ sym (append_assoc done (is_open (parameter_of x) ∷ []) (map is_open (map parameter_of left))) }
+forms_more : (ts : Scope) (r : Request) (done : List Bool) (x : Argument) (left : List Argument) → TakesAll ts r done (x ∷ left) → TakesAll ts r (done ++ is_open (parameter_of ts x) ∷ []) left
+forms_more ts r done x left t =
+    record { same = t.same ∙ sym (append_assoc done (is_open (parameter_of ts x) ∷ []) (map is_open (map (parameter_of ts) left))); served = t.served.1 }
 
-forms_done : (r : Request) (done : List Datum) (d : Datum) (left : List Argument) → TakesAll r (map is_array done ++ is_array d ∷ []) left → TakesAll r (map is_array (done ++ d ∷ [])) left
-forms_done r done d left t = subst (λ (bs : List Bool). TakesAll r bs left) (sym (map-append is_array done (d ∷ []))) t
+forms_done : (ts : Scope) (r : Request) (done : List Datum) (d : Datum) (left : List Argument) → TakesAll ts r (map is_array done ++ is_array d ∷ []) left → TakesAll ts r (map is_array (done ++ d ∷ [])) left
+forms_done ts r done d left t = subst (λ (bs : List Bool). TakesAll ts r bs left) (sym (map-append is_array done (d ∷ []))) t
 
 -- WriteString takes one array, and no other request takes any
 abbrev AreSingle : List Bool → Type 0
@@ -37,6 +37,30 @@ forms_are WriteCard = (λ h. cc, λ h. (refl, (refl, tt)))
 forms_are WriteInt = (λ h. cc, λ h. (refl, (refl, tt)))
 forms_are WriteOct = (λ h. cc, λ h. (refl, (refl, tt)))
 forms_are WriteHex = (λ h. cc, λ h. (refl, (refl, tt)))
+
+only : (b : Bool) → (b || false) ≡ true → b ≡ true
+only true e = refl
+only false e = e
+
+-- each takes values that are no references, and open arrays
+all_served : (r : Request) → AreServed (request_parameters r)
+all_served Write = (refl, tt)
+all_served WriteString = (tt, tt)
+all_served WriteLn = tt
+all_served WriteCard = (refl, (refl, tt))
+all_served WriteInt = (refl, (refl, tt))
+all_served WriteOct = (refl, (refl, tt))
+all_served WriteHex = (refl, (refl, tt))
+
+-- where no reference is wanted, what may be stored is what is taken
+taken_plain : (k j : Kind) → is_plain k ≡ true → stores_value k j ≡ true → takes_value k j ≡ true
+taken_plain (OfPointer to) j plain stores = cc
+taken_plain (OfWhole t) j plain stores = only (takes_value (OfWhole t) j) stores
+taken_plain OfTruth j plain stores = only (takes_value OfTruth j) stores
+taken_plain OfCharacter j plain stores = only (takes_value OfCharacter j) stores
+taken_plain (OfEnumeration n) j plain stores = only (takes_value (OfEnumeration n) j) stores
+taken_plain OfSet j plain stores = only (takes_value OfSet j) stores
+taken_plain (OfRange base low high) j plain stores = only (takes_value (OfRange base low high) j) stores
 
 -- ---- what arguments that are done give
 -- the characters of a string at an address
@@ -71,11 +95,11 @@ module _ (ctx : Setting) where
 
   -- the first of those that are left is at hand, and is done
   abbrev left_more : (r : Request) (done : List Bool) (x : Argument) (left : List Argument) (count p : ℕ) (y : LeftPart ctx.stack.frame r done (x ∷ left) count p)
-      → LeftPart ctx.stack.frame r (done ++ is_open (parameter_of x) ∷ []) left (argument_words x + count) y.given.middle
+      → LeftPart ctx.stack.frame r (done ++ is_open (parameter_of l.scope x) ∷ []) left (argument_words x + count) y.given.middle
   left_more r done x left count p y = record {
     middle = y.middle;
     given = y.given.then;
-    forms = forms_more r done x left y.forms;
+    forms = forms_more l.scope r done x left y.forms;
     serve = record { words = y.serve.words ∙ (let e : count + (argument_words x + arguments_words left) ≡ argument_words x + count + arguments_words left = omega arith in e); end = y.serve.end; by = y.serve.by; within = y.serve.within };
   }
 
@@ -84,7 +108,7 @@ module _ (ctx : Setting) where
   left_done r done d left count more p e y = record {
     middle = y.middle;
     given = subst (λ (n : ℕ). ArgumentsAt l piece n left p y.middle) e y.given;
-    forms = forms_done r done d left y.forms;
+    forms = forms_done l.scope r done d left y.forms;
     serve = record { words = y.serve.words ∙ ap (λ (n : ℕ). n + arguments_words left) e; end = y.serve.end; by = y.serve.by; within = y.serve.within };
   }
 
@@ -162,7 +186,7 @@ module _ (ctx : Setting) where
     other_lies r (high ∷ []) e = refl
     other_lies r (high ∷ address ∷ rest) e = no (takes_array r) _ _ e
 
-    all_given : (r : Request) (done : List Datum) → DataOn ctx done m.stack [] → TakesAll r (map is_array done) [] → IsGiven r done
+    all_given : (r : Request) (done : List Datum) → DataOn ctx done m.stack [] → TakesAll l.scope r (map is_array done) [] → IsGiven r done
     all_given r done on forms = by (takes_array r) refl
       where
         are : map is_open (request_parameters r) ≡ map is_array done
@@ -193,7 +217,7 @@ module _ (ctx : Setting) where
     request_goes r given row =
         let none : length m.stack ≡ 0 = ap length row.part.empty in
         goes_none ctx s (Perform (Do (resolved.Request r given)) ∷ k) m 32 c
-        (lands_on ctx s m shared (Perform (Passing r [] given) ∷ k) m.place m.stack c a
+        (lands_on ctx s m shared (Perform (Passing (Requested r) [] given) ∷ k) m.place m.stack c a
         (at_once ctx _ Quiet m.place m.stack c a
         (record {
           part = record {
@@ -201,7 +225,7 @@ module _ (ctx : Setting) where
             rest = record {
               middle = row.part.here.middle;
               given = subst (λ (n : ℕ). ArgumentsAt l piece n given m.place row.part.here.middle) (sym none) row.part.here.arguments;
-              forms = record { same = ap (map is_open) row.part.here.takes };
+              forms = record { same = ap (map is_open) row.part.here.takes; served = subst AreServed row.part.here.takes (all_served r) };
               serve = record { words = row.part.here.words ∙ (let e : arguments_words given ≡ length m.stack + arguments_words given = omega (arith, none) in e); end = row.part.end; by = row.part.here.by; within = row.part.within };
             };
           };
@@ -211,19 +235,19 @@ module _ (ctx : Setting) where
 
     -- behind an argument of so many words
     abbrev Passed : Request → List Datum → Argument → List Argument → Type 0
-    Passed r done x left = Waiting ctx (Perform (Passing r done (x ∷ left))) Rest Quiet m.place m.stack c a
+    Passed r done x left = Waiting ctx (Perform (Passing (Requested r) done (x ∷ left))) Rest Quiet m.place m.stack c a
 
-    pub passing_goes : (r : Request) (done : List Datum) (x : Argument) (left : List Argument) → Passed r done x left → Goes ctx s (Perform (Passing r done (x ∷ left)) ∷ k) m (c + 32)
+    pub passing_goes : (r : Request) (done : List Datum) (x : Argument) (left : List Argument) → Passed r done x left → Goes ctx s (Perform (Passing (Requested r) done (x ∷ left)) ∷ k) m (c + 32)
     passing_goes r done (ByValue kind e) left row =
         let rest = row.part.rest in
-        let value = rest.given.here.1 in
+        let value = rest.given.here in
         let behind = arguments_within l piece (1 + length m.stack) left rest.given.middle rest.middle rest.given.then (instr_within piece rest.middle (Svc (request_number r)) rest.serve.end rest.serve.by) in
-        operand_goes ctx s k m c a shared (Perform (Passing r done (ByValue kind e ∷ left)) ∷ k) e (Pass r kind done left) refl (omega arith) value.middle value.value.value
+        operand_goes ctx s k m c a shared (Perform (Passing (Requested r) done (ByValue kind e ∷ left)) ∷ k) e (Pass (Requested r) kind done left) refl (omega arith) value.middle value.value.value
         value.value.shallow
         (value_within ctx (length m.stack) e kind m.place rest.given.middle value behind)
         (record {
           part = record {
-            takes = rest.given.here.0;
+            takes = taken_plain kind (kind_of e) rest.forms.served.0 value.stores;
             on = row.part.on;
             tested = rest.given.middle;
             test = value.test;
@@ -231,11 +255,12 @@ module _ (ctx : Setting) where
           };
           then = row.then;
         })
+    passing_goes r done (OfPlace d) left row = absurd row.part.rest.forms.served.0
     passing_goes r done (OfArray d high) left row =
         let rest = row.part.rest in
         let y = rest.given.here in
-        goes_none ctx s (Perform (Passing r done (OfArray d high ∷ left)) ∷ k) m 32 c
-        (lands_on ctx s m shared (PlaceOf d ∷ Fill (PassArray r high done left) ∷ k) m.place m.stack c a
+        goes_none ctx s (Perform (Passing (Requested r) done (OfArray d high ∷ left)) ∷ k) m 32 c
+        (lands_on ctx s m shared (PlaceOf d ∷ Fill (PassArray (Requested r) high done left) ∷ k) m.place m.stack c a
         (at_once ctx _ Quiet m.place m.stack c a
         (record {
           part = record { end = y.found; here = y.here; shallow = y.shallow };
@@ -261,8 +286,8 @@ module _ (ctx : Setting) where
         let from : ℕ = own.base + y.offset in
         let stack : List ℕ = (text_words cs - 1) ∷ from ∷ m.stack in
         let low = string_low ctx s m shared cs y.offset y.text in
-        let after : List Item = Perform (Passing r (done ++ Texts cs ∷ []) left) ∷ k in
-        let items : List Item = Perform (Passing r done (OfText cs ∷ left)) ∷ k in
+        let after : List Item = Perform (Passing (Requested r) (done ++ Texts cs ∷ []) left) ∷ k in
+        let items : List Item = Perform (Passing (Requested r) done (OfText cs ∷ left)) ∷ k in
         let here : State = going m rest.given.middle stack in
         let count : 2 + length m.stack ≡ length stack = omega arith in
         leads ctx s items m shared (Lag y.offset) m.place y.start m.stack (from ∷ m.stack) (c + 32) (c + 1) y.address
@@ -286,11 +311,11 @@ module _ (ctx : Setting) where
 
     -- an array is there: its address, and the number of its last element
     pub pass_array_goes : (r : Request) (high : ℕ) (done : List Datum) (left : List Argument) (place : Place) (d : Designator) (below : List ℕ) → Designates ctx d place m.stack below
-        → Waiting ctx (Fill (PassArray r high done left)) Rest (AtPlace d) m.place below c a → Goes ctx s (Value (Places place) ∷ Fill (PassArray r high done left) ∷ k) m (c + 32)
+        → Waiting ctx (Fill (PassArray (Requested r) high done left)) Rest (AtPlace d) m.place below c a → Goes ctx s (Value (Places place) ∷ Fill (PassArray (Requested r) high done left) ∷ k) m (c + 32)
     pass_array_goes r high done left place d below has row =
         let y = row.part in
-        let items : List Item = Value (Places place) ∷ Fill (PassArray r high done left) ∷ k in
-        let after : List Item = Perform (Passing r (done ++ Opens place high ∷ []) left) ∷ k in
+        let items : List Item = Value (Places place) ∷ Fill (PassArray (Requested r) high done left) ∷ k in
+        let after : List Item = Perform (Passing (Requested r) (done ++ Opens place high ∷ []) left) ∷ k in
         let stack : List ℕ = high ∷ address h place ∷ below in
         let count : 2 + length below ≡ length stack = omega arith in
         addressed ctx s items m shared (access_of l d) place (shape_of l.scope d) m.stack below has (omega (arith, y.room)) m.place y.start (c + 32) (c + 1) y.address
@@ -313,11 +338,11 @@ module _ (ctx : Setting) where
         (omega arith)
 
     pub pass_goes : (r : Request) (to : Kind) (done : List Datum) (left : List Argument) (v : Scalar) (kind : Kind) → within kind v ≡ true → (below : List ℕ) → m.stack ≡ word_for h v ∷ below
-        → Waiting ctx (Fill (Pass r to done left)) Rest (ValueOf kind) m.place below c a → Goes ctx s (Value (Scalars v) ∷ Fill (Pass r to done left) ∷ k) m (c + 32)
+        → Waiting ctx (Fill (Pass (Requested r) to done left)) Rest (ValueOf kind) m.place below c a → Goes ctx s (Value (Scalars v) ∷ Fill (Pass (Requested r) to done left) ∷ k) m (c + 32)
     pass_goes r to done left v kind fit below is row =
-        let items : List Item = Value (Scalars v) ∷ Fill (Pass r to done left) ∷ k in
+        let items : List Item = Value (Scalars v) ∷ Fill (Pass (Requested r) to done left) ∷ k in
         let now : Source = record s { items = items; phase = Going } in
-        let after : List Item = Perform (Passing r (done ++ Scalars v ∷ []) left) ∷ k in
+        let after : List Item = Perform (Passing (Requested r) (done ++ Scalars v ∷ []) left) ∷ k in
         let becomes : Bool → Source = λ b. cond b (with_items now after) (trapped library now trap.Range) in
         let stack_is : m.stack ≡ scalar_word v ∷ below = is ∙ ap (λ (w : ℕ). w ∷ below) (plain_word h kind v (takes_plain to kind row.part.takes).1 fit) in
         let count : 1 + length below ≡ length m.stack = omega (arith, ap length stack_is) in
@@ -341,8 +366,8 @@ module _ (ctx : Setting) where
         (subst (λ (t : Source). stutter t.items < stutter items) (sym (ap becomes one)) falls))
         (omega arith)
 
-    pub serve_goes : (r : Request) (done : List Datum) → Waiting ctx (Perform (Passing r done [])) Rest Quiet m.place m.stack c a
-        → Goes ctx s (Perform (Passing r done []) ∷ k) m (c + 32)
+    pub serve_goes : (r : Request) (done : List Datum) → Waiting ctx (Perform (Passing (Requested r) done [])) Rest Quiet m.place m.stack c a
+        → Goes ctx s (Perform (Passing (Requested r) done []) ∷ k) m (c + 32)
     serve_goes r done row =
         let count : ℕ = request_words r in
         let all : count ≡ length m.stack = omega (arith, row.part.rest.serve.words) in
@@ -355,7 +380,7 @@ module _ (ctx : Setting) where
         let machine : State = record m { place = row.part.rest.serve.end; stack = [] } in
         let w : World = (serve (level_of s) r (map (given_of s.cells) done) s.world).0 in
         let at : List ℕ → List Given → Run = λ x given. record { machine = record m { place = row.part.rest.serve.end; stack = x }; world = (serve (level_of s) r given s.world).0; finish = Running } in
-        goes_one ctx s (Perform (Passing r done []) ∷ k) m 31 c (running machine w)
+        goes_one ctx s (Perform (Passing (Requested r) done []) ∷ k) m 31 c (running machine w)
         (advances m s.world _ (
         at_step ctx m shared.program (Svc (request_number r)) row.part.rest.serve.end by
         ∙ ap (request_row row.part.rest.serve.end m) (request_found r)

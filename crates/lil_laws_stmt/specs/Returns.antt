@@ -8,7 +8,7 @@ use Rattle.lil_asm.specs.declared.instr.Instr.TheVariants.{Rtn}
 use Rattle.lil_mcode.specs.Table.{Module, State, stack_of, module_at, return_row}
 use Rattle.lil_table.specs.Rows.{IsAt}
 use Rattle.lil_match.specs.{Goes.{OwnWords, Stands, IsUnborn, beyond, Shared, Goes}, Running.{running, advanced}, Parts.{yes, no}, Homes.{Of, Own, Fixed, Free, Home, extends_self, Mem}, Waits.{Quiet, Frame, is_of, sees, Setting, at_home, with_frames, Rows, RowsOf, Back}, Known.{or_later, known_kept, each_known, each_comes, each_local}}
-use Rattle.lil_match.specs.{Kept.{EachAbove, first_words, stands_above, all_above, stands_kept, rows_kept}, Steps.{advances, at_step, rows_ahead, goes_one_in}}
+use Rattle.lil_match.specs.{Kept.{EachAbove, each_handed, first_words, stands_above, all_above, stands_kept, rows_kept}, Steps.{advances, at_step, rows_ahead, goes_one_in}}
 use Rattle.lil_laws_stmt.specs.Locals.{of_activation, released, mem_released, fixed_released}
 use Rattle.lil_laws_stmt.specs.Painting.{painted_there, painted_beside, Side, Before, Between, Behind', side}
 
@@ -48,7 +48,7 @@ module _ (ctx : Setting) (f g : Frame) (gs bs : List Frame) where
 
     mark : (i : ℕ) → i < 4 → get_or m.store (m.frame + i) 0 ≡ ctx.home.shadow (f.at + i)
     mark i less =
-        ap (λ (a : ℕ). get_or m.store (a + i) 0) shared.standing.frame_is ∙ shared.mem.kept (f.at + i) (words.own i (inl less) (omega (arith, less, words.mark, words.below)))
+        ap (λ (a : ℕ). get_or m.store (a + i) 0) shared.standing.frame_is ∙ shared.mem.kept (f.at + i) (words.own i (inl less) (omega (arith, less, words.mark, words.top_is)))
 
     abbrev machine : State
     machine = record m { top = m.frame; frame = g.at; place = f.back; running = g.number }
@@ -58,14 +58,14 @@ module _ (ctx : Setting) (f g : Frame) (gs bs : List Frame) where
         let there : module_at m.modules g.number ≡ Some g.own = ap (λ (ms : List Module). module_at ms g.number) shared.program.table_is ∙ shared.standing.callers.0.known in
         advances m s.world _ (
         at_step called m shared.program Rtn end leave
-        ∙ no _ _ _ (ne_eqb m.frame m.base (λ e. omega (arith, e, shared.standing.frame_is, shared.standing.base_is, low.0, under.below, under.mark)))
+        ∙ no _ _ _ (ne_eqb m.frame m.base (λ e. omega (arith, e, shared.standing.frame_is, shared.standing.base_is, low.0, under.top_is, under.mark)))
         ∙ ap (λ (z : ℕ). return_row m z (get_or m.store (m.frame + 2) 0) (get_or m.store (m.frame + 3) 0)) (mark 1 (omega arith) ∙ back.frame)
         ∙ ap (λ (z : ℕ). return_row m g.at z (get_or m.store (m.frame + 3) 0)) (mark 2 (omega arith) ∙ back.place)
         ∙ ap (λ (z : ℕ). return_row m g.at f.back z) (mark 3 (omega arith) ∙ back.module')
         ∙ yes _ _ _
-        (and_from _ _ (lt-ltb (m.frame + 3) 65536 (omega (arith, shared.standing.frame_is, words.mark, words.below, shared.standing.low, shared.standing.high)))
+        (and_from _ _ (lt-ltb (m.frame + 3) 65536 (omega (arith, shared.standing.frame_is, words.mark, words.top_is, shared.standing.low, shared.standing.high)))
         (and_from _ _ (le-leb m.base g.at (omega (arith, shared.standing.base_is, low.0)))
-        (and_from _ _ (le-leb (g.at + 4) m.frame (omega (arith, shared.standing.frame_is, under.mark, under.below))) (ap is_some there))))
+        (and_from _ _ (le-leb (g.at + 4) m.frame (omega (arith, shared.standing.frame_is, under.mark, under.top_is))) (ap is_some there))))
         )
 
     -- its words are the machine's own, or its variables'
@@ -142,9 +142,10 @@ module _ (ctx : Setting) (f g : Frame) (gs bs : List Frame) where
                     (stands_kept h.owner x.owner base f.at g gs (λ a from below. beside_is a (inl below)) g'.stands.1);
                 links = g'.links.1;
                 locals = each_local ctx.activations ctx.activations (λ i b e. e) h x (g ∷ (gs ++ bs)) (λ r seen e. refl) (λ r seen e. shape_kept r seen) g'.locals.2;
+                handed = each_handed ctx.activations ctx.activations (λ i b e. e) h x bs base f.at g gs g'.stands.1 (λ a from below. (beside_is a (inl (omega (arith, below, under.mark, under.top_is))), refl)) (λ r seen e. refl) (λ r seen e. shape_kept r seen) g'.handed.1;
                 room = λ a from below. room a (omega (arith, from, g'.frame_is)) below (side f.at m.top a);
                 based = g'.based;
-                low = omega (arith, g'.frame_is, words.below, g'.low);
+                low = omega (arith, g'.frame_is, words.top_is, g'.low);
                 high = g'.high;
               };
               activations_are = shared.activations_are;
@@ -157,7 +158,7 @@ module _ (ctx : Setting) (f g : Frame) (gs bs : List Frame) where
             ahead = rows_ahead (at_home returning x) k f.back m.stack c back.outer
                 (subst (λ (z : List ℕ). Rows (at_home returning x) k Quiet f.back z c back.outer) (sym empty)
                 (rows_kept k returning x ctx.stack.limit (base + 4) low.1 Quiet f.back [] c back.outer
-                (record { shadow = λ a from below. refl; base = λ r e l. refl; shape = λ r e l. shape_kept r e; targets = refl; workspaces = extends_self h.workspaces })
+                (record { pushed = λ i less. refl; shadow = λ a from below. refl; base = λ r e l. refl; shape = λ r e l. shape_kept r e; targets = refl; workspaces = extends_self h.workspaces })
                 back.then));
           };
         })
@@ -179,5 +180,5 @@ module _ (ctx : Setting) (f g : Frame) (gs bs : List Frame) where
         room a from below (Behind' z y) = beside_is a (inr (z, y)) ∙ shared.standing.room a y below
 
         beside : (a : ℕ) → (a < ctx.stack.base) ⊎ (ctx.stack.limit ≤ a) → (a < f.at) ⊎ ((f.at ≤ a) × (m.top ≤ a))
-        beside a (inl l) = inl (omega (arith, l, low.0, under.below))
-        beside a (inr o) = inr (omega (arith, o, words.below, shared.standing.low), omega (arith, o, shared.standing.low))
+        beside a (inl l) = inl (omega (arith, l, low.0, under.top_is))
+        beside a (inr o) = inr (omega (arith, o, words.top_is, shared.standing.low), omega (arith, o, shared.standing.low))

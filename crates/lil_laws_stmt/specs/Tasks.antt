@@ -1,15 +1,15 @@
 -- The rows of assignments.
-use Rattle.std.proofs.Common.{◌≡◌, ℕ, ◌+◌, ◌<◌, Bool, true, false, cond, ◌||◌, List, [], ◌∷◌, length, take, drop, refl, sym, ap, ◌∙◌, subst, arith}
+use Rattle.std.proofs.Common.{◌≡◌, ℕ, ◌+◌, ◌<◌, Bool, true, cond, List, [], ◌∷◌, length, take, drop, refl, sym, ap, ◌∙◌, subst, arith}
 use Rattle.lil_base.specs.declared.fault.TrapKind.TheVariants as trap
-use Rattle.lil_resolved.specs.{Kinds.{Pointee, Kind, OfPointer, takes_value, stores_value, same_pointer, Scalar, within, Shape, words, is_there}, Resolved.{Designator, Expression, Assign, Copy, kind_of, shape_of}}
+use Rattle.lil_resolved.specs.{Kinds.{Kind, stores_value, Scalar, within, Shape, words, is_there}, Resolved.{Designator, Expression, Assign, Copy, kind_of, shape_of}}
 use Rattle.lil_meaning.specs.{Items.{Place, stored, alone, under, Scalars, Places, SetTo, StoreAt, CopyTo, CopyFrom, Do, Item, Value, PlaceOf, Fill, Perform, Going, Source}, Steps.trapped}
 use Rattle.lil_asm.specs.declared.instr.Instr.TheVariants.{Mov}
 use Rattle.lil_mcode.specs.Table.{State, act, going}
 use Rattle.lil_frames.specs.Words.{spliced}
 use Rattle.lil_table.specs.Rows.{IsAt, InstrsAt, ValueRow, test_code, Access, access_of, readied, held, store_code}
-use Rattle.lil_match.specs.{Goes.{Shared, Goes}, Running.running, Homes.{word_for, Refers, plain_word, plain_refers, takes_plain, address, Mem, mem_copied}, Waits.{Setting, frame_of, laid_out, Quiet, ValueOf, AtPlace, Around, Reach, Rows, Reaches, Designates, placed, Waiting}, Ranges.pointers_same, Orders.{instr_within, instrs_order, expression_stands}}
-use Rattle.lil_match.specs.Steps.{closed, advances, at_step, at_once, rows_ahead, shared_with, lands_on, goes_none_within, goes_one, goes_more, operand_exact, located_goes}
-use Rattle.lil_laws_place.specs.Codes.{addressed, copied, made_ready, readied_twice, held_words, tested, stored_goes}
+use Rattle.lil_match.specs.{Goes.{Shared, Goes}, Running.running, Homes.{word_for, Refers, address, Mem, mem_copied}, Waits.{Setting, frame_of, laid_out, Quiet, ValueOf, AtPlace, Around, Reach, Rows, Reaches, Designates, placed, Waiting}, Orders.{instr_within, instrs_order, expression_stands}}
+use Rattle.lil_match.specs.Steps.{closed, advances, at_step, at_once, rows_ahead, shared_with, lands_on, goes_none_within, goes_one, operand_exact, located_goes}
+use Rattle.lil_laws_place.specs.Codes.{addressed, copied, made_ready, readied_twice, held_words, stored_tested, stored_goes}
 
 module _ (ctx : Setting) where
   open ctx use {library, table, home as h}
@@ -134,44 +134,17 @@ module _ (ctx : Setting) where
     stored_test : (place : Place) (to kind : Kind) (below : List ℕ) (row : Storing place to kind below) → InstrsAt piece (test_code to kind) m.place row.part.amid.here.middle
     stored_test place to kind below row = rw (row.part.amid.at, row.part.same) row.part.amid.here.value.test
 
-    -- a value that is no reference is tested
-    number_store : (place : Place) (to : Kind) (v : Scalar) (kind : Kind) → within kind v ≡ true → takes_value to kind ≡ true → (below : List ℕ) → m.stack ≡ word_for h v ∷ below
-        → Storing place to kind below → Goes ctx s (Value (Scalars v) ∷ Fill (StoreAt place to) ∷ k) m (c + 32)
-    number_store place to v kind fit takes below is row =
-        let items : List Item = Value (Scalars v) ∷ Fill (StoreAt place to) ∷ k in
-        let now : Source = record s { items = items; phase = Going } in
-        let after : Source = record s { items = k; cells = stored s.cells place (alone v); phase = Going } in
-        let becomes : Bool → Source = λ b. cond b after (trapped library now trap.Range) in
-        tested ctx s items m shared m.place m.stack to kind v takes fit below (is ∙ ap (λ (w : ℕ). w ∷ below) (plain_word h kind v (takes_plain to kind takes).1 fit))
-        row.part.amid.here.middle (c + 32) (c + 1) (stored_test place to kind below row) (closed ctx k _ _ _ _ _ row.then)
-        (λ out. ap becomes out)
-        (λ one.
-        stored_goes ctx s items m shared row.part.amid.here.middle m.stack (readied (access_of l row.part.of)) place to below row.part.has (readied_twice ctx (access_of l row.part.of)) v one (plain_refers h to v (takes_plain to kind takes).0) is
-        row.part.amid.end row.part.amid.here.store k (ap becomes one) c (c + 1) a row.then (omega arith))
-        (omega arith)
-
-    -- a pointer isn't
-    pointer_store : (place : Place) (to : Kind) (v : Scalar) (kind : Kind) → within kind v ≡ true → Refers h kind v → (n : Pointee) × (to ≡ OfPointer n) × (kind ≡ OfPointer n) → (below : List ℕ) → m.stack ≡ word_for h v ∷ below
-        → Storing place to kind below → Goes ctx s (Value (Scalars v) ∷ Fill (StoreAt place to) ∷ k) m (c + 32)
-    pointer_store place to v kind fit refers (n, one, other) below is row =
-        let items : List Item = Value (Scalars v) ∷ Fill (StoreAt place to) ∷ k in
-        let now : Source = record s { items = items; phase = Going } in
-        let after : Source = record s { items = k; cells = stored s.cells place (alone v); phase = Going } in
-        let becomes : Bool → Source = λ b. cond b after (trapped library now trap.Range) in
-        let same : kind ≡ to = other ∙ sym one in
-        let fits : within to v ≡ true = ap (λ (j : Kind). within j v) (sym same) ∙ fit in
-        let stays : m.place ≡ row.part.amid.here.middle =
-        subst (λ (j : Kind). InstrsAt piece (test_code j (OfPointer n)) m.place row.part.amid.here.middle) one (subst (λ (j : Kind). InstrsAt piece (test_code to j) m.place row.part.amid.here.middle) other (stored_test place to kind below row)) in
-        goes_more ctx s items m (c + 1) (c + 32)
-        (subst (λ (p : ℕ). Goes ctx s items (going m p m.stack) (c + 1)) (sym stays)
-        (stored_goes ctx s items m shared row.part.amid.here.middle m.stack (readied (access_of l row.part.of)) place to below row.part.has (readied_twice ctx (access_of l row.part.of)) v fits (subst (λ (j : Kind). Refers h j v) same refers) is
-        row.part.amid.end row.part.amid.here.store k (ap becomes fits) c (c + 1) a row.then (omega arith)))
-        (omega arith)
-
     pub store_goes : (place : Place) (to : Kind) (v : Scalar) (kind : Kind) → within kind v ≡ true → Refers h kind v → (below : List ℕ) → m.stack ≡ word_for h v ∷ below
         → Storing place to kind below → Goes ctx s (Value (Scalars v) ∷ Fill (StoreAt place to) ∷ k) m (c + 32)
-    store_goes place to v kind fit refers below is row = by (takes_value to kind) refl (ap (stores_value to) row.part.same ∙ row.part.amid.here.value.stores)
-      where
-        by : (b : Bool) → takes_value to kind ≡ b → (b || same_pointer to kind) ≡ true → Goes ctx s (Value (Scalars v) ∷ Fill (StoreAt place to) ∷ k) m (c + 32)
-        by true takes stores = number_store place to v kind fit takes below is row
-        by false takes stores = pointer_store place to v kind fit refers (pointers_same to kind stores) below is row
+    store_goes place to v kind fit refers below is row =
+        let items : List Item = Value (Scalars v) ∷ Fill (StoreAt place to) ∷ k in
+        let now : Source = record s { items = items; phase = Going } in
+        let after : Source = record s { items = k; cells = stored s.cells place (alone v); phase = Going } in
+        let becomes : Bool → Source = λ b. cond b after (trapped library now trap.Range) in
+        stored_tested ctx s items m shared m.place m.stack to kind v (ap (stores_value to) row.part.same ∙ row.part.amid.here.value.stores) fit refers below is
+        row.part.amid.here.middle (c + 32) (c + 1) (stored_test place to kind below row) (closed ctx k _ _ _ _ _ row.then)
+        (λ out. ap becomes out)
+        (λ one led.
+        stored_goes ctx s items m shared row.part.amid.here.middle m.stack (readied (access_of l row.part.of)) place to below row.part.has (readied_twice ctx (access_of l row.part.of)) v one led is
+        row.part.amid.end row.part.amid.here.store k (ap becomes one) c (c + 1) a row.then (omega arith))
+        (omega arith)

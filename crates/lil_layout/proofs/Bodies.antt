@@ -2,7 +2,7 @@
 use Rattle.std.proofs.Common.{◌≡◌, ℕ, ◌+◌, List, [], ◌∷◌, ◌++◌, length, map, Option, Some, None, refl, ap, ◌∙◌, arith, length-append}
 use Rattle.std.specs.List.{sum_by}
 use Rattle.std.proofs.lemmas.List.{Concat.length-flat_map, Folds.flat_map-map, Sums.sum_by-cons}
-use Rattle.lil_resolved.specs.{declared.resolved.{RArgument.RArgument, RArm.RArm, RGuard.RGuard, RExpr.RExpr, RStmt.RStmt}, Views.{request_is, if_is, case_is, guard_is, arm_is, argument_of, statement_of, statements_of, guard_of, arm_of, joined, guarded, armed, arms_of, else_of}, Resolved.{Statements, Empty, Then, Arms}}
+use Rattle.lil_resolved.specs.{declared.resolved.{RArgument.RArgument, RArm.RArm, RGuard.RGuard, RExpr.RExpr, RStmt.RStmt}, Views.{request_is, call_is, if_is, case_is, guard_is, arm_is, argument_of, statement_of, statements_of, guard_of, arm_of, joined, guarded, armed, arms_of, else_of}, Resolved.{Statements, Empty, Then, Arms}}
 use Rattle.lil_resolved.specs.Sizes.{argument_strings, arguments_strings, statement_strings, body_strings, arms_strings}
 use Rattle.lil_base.specs.declared.request.Request as request
 use Rattle.lil_resolved.specs.declared.resolved.RStmt.TheVariants as v
@@ -27,6 +27,9 @@ alone xs = omega (arith, length-append xs [])
 
 pub request_words : (r : request.Request) (given : List RArgument) → statement_words (v.Request r given) ≡ sum_by argument_words given
 request_words r given = ap (λ ss. length (body_strings ss)) (request_is r given) ∙ alone (arguments_strings (map argument_of given)) ∙ given_words given
+
+pub call_words : (p n : ℕ) (given : List RArgument) → statement_words (v.Call p n given) ≡ sum_by argument_words given
+call_words p n given = ap (λ ss. length (body_strings ss)) (call_is p n given) ∙ alone (arguments_strings (map argument_of given)) ∙ given_words given
 
 -- ---- guards
 guard_before : (g : RGuard) (other : Statements) → length (body_strings (guard_of g other)) ≡ guard_words g + length (body_strings other)

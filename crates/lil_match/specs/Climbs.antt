@@ -23,10 +23,10 @@ linked_at shadow acts f (g ∷ gs) c to (inr m) =
 -- the first word of a frame is the machine's own
 pub first_own : (owner : ℕ → Owner) (base top : ℕ) (f : Frame) (gs : List Frame) → Stands owner base top f gs → (to : Frame) → Among to (f ∷ gs) → owner to.at ≡ Own
 first_own owner base top f [] s to (inl e) =
-    ap (λ (g : Frame). owner g.at) e ∙ ap owner (let z : f.at ≡ f.at + 0 = omega arith in z) ∙ s.0.own 0 (inl (omega arith)) (omega (arith, s.0.mark, s.0.below))
+    ap (λ (g : Frame). owner g.at) e ∙ ap owner (let z : f.at ≡ f.at + 0 = omega arith in z) ∙ s.0.own 0 (inl (omega arith)) (omega (arith, s.0.mark, s.0.top_is))
 first_own owner base top f [] s to (inr m) = absurd m
 first_own owner base top f (g ∷ gs) s to (inl e) =
-    ap (λ (y : Frame). owner y.at) e ∙ ap owner (let z : f.at ≡ f.at + 0 = omega arith in z) ∙ s.0.own 0 (inl (omega arith)) (omega (arith, s.0.mark, s.0.below))
+    ap (λ (y : Frame). owner y.at) e ∙ ap owner (let z : f.at ≡ f.at + 0 = omega arith in z) ∙ s.0.own 0 (inl (omega arith)) (omega (arith, s.0.mark, s.0.top_is))
 first_own owner base top f (g ∷ gs) s to (inr m) = first_own owner base f.at g gs s.1 to m
 
 -- the display of a frame in procedures begins with it

@@ -1,19 +1,20 @@
--- What the calls at hand need is what their frames take.
-use Rattle.std.proofs.Common.{◌≡◌, ℕ, zero, suc, ◌+◌, ◌≤◌, ⊎_elim, List, [], ◌∷◌, Option, refl, sym, ap, ◌∙◌, subst, arith}
+-- What the calls at hand need is at least what their frames take.
+use Rattle.std.proofs.Common.{◌≡◌, ℕ, ◌+◌, ◌≤◌, ⊎_elim, List, [], ◌∷◌, length, Option, sym, ap, ◌∙◌, subst, arith}
 use Rattle.std.specs.Prelude.{slice_get}
-use Rattle.lil_resolved.specs.Resolved.{Resolved}
-use Rattle.lil_meaning.specs.{Items.{loaded_at, Turns, Holding, End, Item, Perform, Activation, Source}, Need.{frame_of, cost, unless_body, with_callers, chain}, Steps.{owner_of, procedure_of}}
+use Rattle.lil_resolved.specs.{Kinds.Shape, Resolved.{Argument, Resolved}}
+use Rattle.lil_meaning.specs.{Items.{loaded_at, Datum, Called, Pass, PassPlace, Turns, Holding, End, Item, Fill, Perform, Activation, Source}, Need.{frame_of, cost, unless_body, with_callers, chain}, Steps.{current, owner_of, procedure_of}}
 use Rattle.lil_mcode.specs.Table.{Module, State}
-use Rattle.lil_match.specs.{Homes.{Owner, Home}, Waits.{Mode, Quiet, Around, Frame, Setting, with_frames, Behind, RowsOf, Rows}, Goes.{Stands, IsKnown, EachKnown, Shared}}
+use Rattle.lil_match.specs.{Homes.{Owner, Home}, Waits.{Mode, Quiet, Around, Frame, Setting, with_frames, Pending, Behind, RowsOf, Rows}, Goes.{Stands, IsKnown, EachKnown, Shared}, Steps.closed}
 
 abbrev pub cost_of : List Frame → ℕ
 cost_of [] = 0
-cost_of (f ∷ fs) = (f.layout.frame + 17) + cost_of fs
+cost_of (f ∷ fs) = (f.layout.frame + (f.pushed + 17)) + cost_of fs
 
 -- the activation of a frame takes what the frame does
 pub record Costs (library : List Resolved) (loaded : List ℕ) (acts : List Activation) (f : Frame) : Type 0 where
   pub takes : cost library loaded (slice_get acts f.activation) ≡ f.layout.frame + 17
   pub rest : (n : ℕ) → with_callers (slice_get acts f.activation) n ≡ unless_body f.procedure n
+  pub owner : owner_of (slice_get acts f.activation) ≡ f.number
 
 abbrev pub EachCosts : List Resolved → List ℕ → List Activation → List Frame → Type 0
 EachCosts library loaded acts [] = Unit {0}
@@ -29,52 +30,82 @@ known_costs library loaded table acts h f g =
           ∙ ap (λ (p : ℕ). frame_of (loaded_at library loaded f.number) p + 17) called
           ∙ ap (λ (w : ℕ). w + 17) (sym g.size);
       rest = λ n. ap (λ (o : Option Activation). with_callers o n) g.runs ∙ ap (λ (p : ℕ). unless_body p n) called;
+      owner = g.owner;
     }
 
 pub each_costs : (library : List Resolved) (loaded : List ℕ) (table : List Module) (acts : List Activation) (h : Home) (fs : List Frame) → EachKnown library loaded table acts h fs → EachCosts library loaded acts fs
 each_costs library loaded table acts h [] e = tt
 each_costs library loaded table acts h (f ∷ fs) e = (known_costs library loaded table acts h f e.0, each_costs library loaded table acts h fs e.1)
 
-none_left : (p : ℕ) → unless_body p 0 ≡ 0
-none_left zero = refl
-none_left (suc p) = refl
+-- during a call's arguments, what is pushed and what is to be takes no more than the call
+pub pending_cost : (ctx : Setting) (k : List Item) (q levels : ℕ) (done : List Datum) (next : List Shape) (left : List Argument) (p c : ℕ) (a : Around) → Pending ctx q levels done next left (RowsOf k) p c a
+    → EachCosts ctx.library ctx.loaded ctx.activations (ctx.stack.frame ∷ ctx.stack.callers)
+    → ((y : Setting) (p c : ℕ) (a : Around) → Rows y k Quiet p [] c a → EachCosts y.library y.loaded y.activations (y.stack.frame ∷ y.stack.callers) → cost_of (y.stack.frame ∷ y.stack.callers) ≤ chain y.library y.loaded y.activations k)
+    → cost_of (ctx.stack.frame ∷ ctx.stack.callers) + (length next + length left) ≤ (frame_of (loaded_at ctx.library ctx.loaded (owner_of (slice_get ctx.activations (current k)))) q + 17) + chain ctx.library ctx.loaded ctx.activations k
+pending_cost ctx k q levels done next left p c a w e rest =
+    let inner = subst (λ (y : Setting). EachCosts y.library y.loaded y.activations (y.stack.frame ∷ y.stack.callers)) w.is e in
+    let below = rest w.before w.end c w.outer w.then (record { takes = inner.0.takes; rest = inner.0.rest; owner = inner.0.owner }, inner.1) in
+    let chain_is : chain ctx.library ctx.loaded ctx.activations k ≡ chain w.before.library w.before.loaded w.before.activations k = ap (λ (y : Setting). chain y.library y.loaded y.activations k) w.is in
+    let cost_is : cost_of (ctx.stack.frame ∷ ctx.stack.callers) ≡ (4 + length done) + cost_of (w.before.stack.frame ∷ w.before.stack.callers) =
+    ap (λ (y : Setting). cost_of (y.stack.frame ∷ y.stack.callers)) w.is
+    ∙ (let e : (w.before.stack.frame.layout.frame + (((4 + length done) + w.before.stack.frame.pushed) + 17)) + cost_of w.before.stack.callers ≡ (4 + length done) + ((w.before.stack.frame.layout.frame + (w.before.stack.frame.pushed + 17)) + cost_of w.before.stack.callers) = omega arith in e) in
+    let same : current k ≡ ctx.stack.frame.activation = closed w.before k Quiet w.end [] c w.outer w.then ∙ sym (ap (λ (y : Setting). y.stack.frame.activation) w.is) in
+    let number : owner_of (slice_get ctx.activations (current k)) ≡ ctx.stack.frame.number = ap (λ (i : ℕ). owner_of (slice_get ctx.activations i)) same ∙ e.0.owner in
+    let frame : frame_of (loaded_at ctx.library ctx.loaded (owner_of (slice_get ctx.activations (current k)))) q ≡ frame_of (loaded_at ctx.library ctx.loaded ctx.stack.frame.number) q = ap (λ (i : ℕ). frame_of (loaded_at ctx.library ctx.loaded i) q) number in
+    omega (arith, below, chain_is, cost_is, frame, w.room)
 
--- the calls of items that have rows are those of the frames
+-- the calls of items that have rows take what the frames do
 pub items_cost : (ctx : Setting) (k : List Item) (t : Mode) (p : ℕ) (stack : List ℕ) (c : ℕ) (a : Around) → Rows ctx k t p stack c a
-    → EachCosts ctx.library ctx.loaded ctx.activations (ctx.stack.frame ∷ ctx.stack.callers) → chain ctx.library ctx.loaded ctx.activations k ≡ cost_of (ctx.stack.frame ∷ ctx.stack.callers)
+    → EachCosts ctx.library ctx.loaded ctx.activations (ctx.stack.frame ∷ ctx.stack.callers) → cost_of (ctx.stack.frame ∷ ctx.stack.callers) ≤ chain ctx.library ctx.loaded ctx.activations k
 items_cost ctx [] t p stack c a r e = absurd r
-items_cost ctx (Perform (Turns x kind z step left body) ∷ k) t p stack c a r e = ⊎_elim (λ b. items_cost ctx k _ _ _ _ _ b.then e) (λ n. items_cost ctx k _ _ _ _ _ n.then e) r.there
+items_cost ctx (Perform (Turns x kind z step left body) ∷ k) t p stack c a r e =
+    let rest : cost_of (ctx.stack.frame ∷ ctx.stack.callers) ≤ chain ctx.library ctx.loaded ctx.activations k = ⊎_elim (λ b. items_cost ctx k _ _ _ _ _ b.then e) (λ n. items_cost ctx k _ _ _ _ _ n.then e) r.there in
+    omega (arith, rest)
 items_cost ctx (Perform (Holding place) ∷ k) t p stack c a r e =
     let w = r.there in
     let inner = subst (λ (y : Setting). EachCosts y.library y.loaded y.activations (y.stack.frame ∷ y.stack.callers)) w.is e in
-    subst (λ (y : Setting). chain y.library y.loaded y.activations k ≡ cost_of (y.stack.frame ∷ y.stack.callers)) (sym w.is)
-    (items_cost w.before k _ _ _ _ _ w.then (record { takes = inner.0.takes; rest = inner.0.rest }, inner.1))
+    let rest : cost_of (ctx.stack.frame ∷ ctx.stack.callers) ≤ chain ctx.library ctx.loaded ctx.activations k =
+    subst (λ (y : Setting). cost_of (y.stack.frame ∷ y.stack.callers) ≤ chain y.library y.loaded y.activations k) (sym w.is)
+    (items_cost w.before k _ _ _ _ _ w.then (record { takes = inner.0.takes; rest = inner.0.rest; owner = inner.0.owner }, inner.1)) in
+    omega (arith, rest)
 items_cost ctx (Perform (End n) ∷ k) t p stack c a r e =
+    let same : chain ctx.library ctx.loaded ctx.activations (Perform (End n) ∷ k) ≡ (ctx.stack.frame.layout.frame + 17) + with_callers (slice_get ctx.activations ctx.stack.frame.activation) (chain ctx.library ctx.loaded ctx.activations k) =
     ap (λ (i : ℕ). cost ctx.library ctx.loaded (slice_get ctx.activations i) + with_callers (slice_get ctx.activations i) (chain ctx.library ctx.loaded ctx.activations k)) r.there.activation
-    ∙ ap (λ (n : ℕ). n + with_callers (slice_get ctx.activations ctx.stack.frame.activation) (chain ctx.library ctx.loaded ctx.activations k)) e.0.takes
-    ∙ ap (λ (n : ℕ). (ctx.stack.frame.layout.frame + 17) + n) (by ctx.stack.callers ctx.stack.bodies e.1 r.there.behind (λ g gs bs p a back rest. items_cost (with_frames ctx g gs bs) k Quiet p [] r.later a back rest))
+    ∙ ap (λ (n : ℕ). n + with_callers (slice_get ctx.activations ctx.stack.frame.activation) (chain ctx.library ctx.loaded ctx.activations k)) e.0.takes in
+    omega (arith, same, r.there.idle, by ctx.stack.callers ctx.stack.bodies e.1 r.there.behind (λ g gs bs p a back rest. items_cost (with_frames ctx g gs bs) k Quiet p [] r.later a back rest))
   where
     by : (gs bs : List Frame) → EachCosts ctx.library ctx.loaded ctx.activations gs → Behind ctx k (RowsOf k) r.later gs bs
-        → ((g : Frame) (gs bs : List Frame) (p : ℕ) (a : Around) → Rows (with_frames ctx g gs bs) k Quiet p [] r.later a → EachCosts ctx.library ctx.loaded ctx.activations (g ∷ gs) → chain ctx.library ctx.loaded ctx.activations k ≡ cost_of (g ∷ gs))
-        → with_callers (slice_get ctx.activations ctx.stack.frame.activation) (chain ctx.library ctx.loaded ctx.activations k) ≡ cost_of gs
-    by (g ∷ gs) bs each back under = e.0.rest (chain ctx.library ctx.loaded ctx.activations k) ∙ ap (λ (p : ℕ). unless_body p (chain ctx.library ctx.loaded ctx.activations k)) back.called ∙ under g gs bs _ _ back.then each
-    by [] (b ∷ bs) each next under = e.0.rest (chain ctx.library ctx.loaded ctx.activations k) ∙ ap (λ (p : ℕ). unless_body p (chain ctx.library ctx.loaded ctx.activations k)) next.body
-    by [] [] each last under =
-        e.0.rest (chain ctx.library ctx.loaded ctx.activations k) ∙ ap (λ (i : List Item). unless_body ctx.stack.frame.procedure (chain ctx.library ctx.loaded ctx.activations i)) last ∙ none_left ctx.stack.frame.procedure
-items_cost ctx (i ∷ k) t p stack c a r e = items_cost ctx k _ _ _ _ _ r.there.then e
+        → ((g : Frame) (gs bs : List Frame) (p : ℕ) (a : Around) → Rows (with_frames ctx g gs bs) k Quiet p [] r.later a → EachCosts ctx.library ctx.loaded ctx.activations (g ∷ gs) → cost_of (g ∷ gs) ≤ chain ctx.library ctx.loaded ctx.activations k)
+        → cost_of gs ≤ with_callers (slice_get ctx.activations ctx.stack.frame.activation) (chain ctx.library ctx.loaded ctx.activations k)
+    by (g ∷ gs) bs each back under =
+        omega (arith, e.0.rest (chain ctx.library ctx.loaded ctx.activations k) ∙ ap (λ (p : ℕ). unless_body p (chain ctx.library ctx.loaded ctx.activations k)) back.called, under g gs bs _ _ back.then each)
+    by [] bs each back under = omega arith
+items_cost ctx (Fill (Pass (Called q levels) kind done left) ∷ k) t p stack c a r e =
+    let all = pending_cost ctx k q levels done _ left _ _ a r.there.pending e (λ y p c a. items_cost y k Quiet p [] c a) in
+    omega (arith, all)
+items_cost ctx (Fill (PassPlace (Called q levels) done left) ∷ k) t p stack c a r e =
+    let all = pending_cost ctx k q levels done _ left _ _ a r.there.pending e (λ y p c a. items_cost y k Quiet p [] c a) in
+    omega (arith, all)
+items_cost ctx (i ∷ k) t p stack c a r e =
+    let rest = items_cost ctx k _ _ _ _ _ r.there.then e in
+    omega (arith, rest)
 
 -- frames take no more than they cost
 pub top_low : (owner : ℕ → Owner) (base top : ℕ) (f : Frame) (gs : List Frame) → Stands owner base top f gs → top ≤ base + cost_of (f ∷ gs)
-top_low owner base top f [] s = omega (arith, s.0.most, s.1)
-top_low owner base top f (g ∷ gs) s = omega (arith, s.0.most, top_low owner base f.at g gs s.1)
+top_low owner base top f [] s = omega (arith, s.0.top_is, s.1)
+top_low owner base top f (g ∷ gs) s = omega (arith, s.0.top_is, top_low owner base f.at g gs s.1)
+
+-- what the frames of a state cost
+pub shared_costs : (ctx : Setting) (s : Source) (m : State) → Shared ctx s m → EachCosts ctx.library ctx.loaded ctx.activations (ctx.stack.frame ∷ ctx.stack.callers)
+shared_costs ctx s m shared = (
+  known_costs ctx.library ctx.loaded ctx.table ctx.activations ctx.home ctx.stack.frame shared.standing.known,
+  each_costs ctx.library ctx.loaded ctx.table ctx.activations ctx.home ctx.stack.callers shared.standing.callers,
+)
 
 -- the same of a state
 pub shared_cost : (ctx : Setting) (s : Source) (m : State) → Shared ctx s m → (k : List Item) (t : Mode) (p : ℕ) (stack : List ℕ) (c : ℕ) (a : Around) → Rows ctx k t p stack c a
-    → chain ctx.library s.loaded s.activations k ≡ cost_of (ctx.stack.frame ∷ ctx.stack.callers)
+    → cost_of (ctx.stack.frame ∷ ctx.stack.callers) ≤ chain ctx.library s.loaded s.activations k
 shared_cost ctx s m shared k t p stack c a r =
-    ap (λ (l : List ℕ). chain ctx.library l s.activations k) shared.loaded_are
-    ∙ ap (λ (acts : List Activation). chain ctx.library ctx.loaded acts k) shared.activations_are
-    ∙ items_cost ctx k t p stack c a r (
-      known_costs ctx.library ctx.loaded ctx.table ctx.activations ctx.home ctx.stack.frame shared.standing.known,
-      each_costs ctx.library ctx.loaded ctx.table ctx.activations ctx.home ctx.stack.callers shared.standing.callers,
-    )
+    let same : chain ctx.library s.loaded s.activations k ≡ chain ctx.library ctx.loaded ctx.activations k =
+    ap (λ (l : List ℕ). chain ctx.library l s.activations k) shared.loaded_are ∙ ap (λ (acts : List Activation). chain ctx.library ctx.loaded acts k) shared.activations_are in
+    omega (arith, same, items_cost ctx k t p stack c a r (shared_costs ctx s m shared))

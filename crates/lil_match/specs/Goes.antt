@@ -1,27 +1,25 @@
 -- Matched states: the code at hand does the items that are left, the store has the cells, and frames stand one over another. One step of
 -- the source leads from one to the next.
-use Rattle.std.proofs.Common.{◌≡◌, ℕ, ◌+◌, ◌<◌, ◌≤◌, ◌⊎◌, Bool, true, false, not, Option, Some, None, List, [], ◌∷◌, length, get_or, map}
+use Rattle.std.proofs.Common.{◌≡◌, ℕ, ◌+◌, ◌<◌, ◌≤◌, ◌⊎◌, Bool, true, false, not, Option, Some, None, List, [], ◌∷◌, ◌++◌, length, get_or, map}
 use Rattle.std.specs.{Prelude.slice_get, List.list_any}
 use Rattle.lil_base.specs.declared.fault.{LimitKind.LimitKind, TrapAt.TrapAt}
 use Rattle.lil_base.specs.declared.fault.LimitKind.TheVariants as limit
-use Rattle.lil_resolved.specs.{Resolved.{Procedure, Resolved, procedure_by, outline_of}, Sizes.frame_words, Kinds.{Shape, Absent, is_there, shape_at, offsets_from}}
-use Rattle.lil_meaning.specs.{Items.{Root, Global, Local, Object, Cells, targets_of, loaded_at, Item, Activation, Workspace, Parked, Level, Phase, Going, Closing, Ended, Trapped, Source, heap_words}, World.{World, all_closed}, Need.{frame_of, chain_of}, Steps.{next, own_slot, owner_of, procedure_of, procedures_of, surrounding, name_of, procedure_name}}
+use Rattle.lil_resolved.specs.{Resolved.{Procedure, Resolved, procedure_by, outline_of}, Sizes.frame_words, Kinds.{Shape, Absent, Address, is_there, shape_at, offsets_from}}
+use Rattle.lil_meaning.specs.{Items.{Root, Global, Local, Object, Place, Here, At, Cells, targets_of, loaded_at, Item, Activation, Workspace, Parked, Level, Phase, Going, Closing, Ended, Trapped, Source, heap_words}, World.{World, all_closed}, Need.{frame_of, chain_of, HasCalls}, Steps.{next, owner_of, procedure_of, procedures_of, surrounding, name_of, procedure_name}}
 use Rattle.lil_mcode.specs.Table.{Module, StackRegisters, Kept, State, stack_of, module_at}
 use Rattle.lil_asm.specs.Stretches.{stretch}
 use Rattle.lil_table.specs.Rows.{Layout, FramedRow, exactly}
-use Rattle.lil_match.specs.{Running.{Finish, Running, Finished, TrappedBy, Limited, Run, mrun, running}, Homes.{Owner, Of, Own, Fixed, Free, Home, Extends, lives, Mem}, Waits.{stutter, Frame, locals_in, own_words, frames_of, is_of, Stack, Setting, Quiet, Around, Ahead}}
+use Rattle.lil_match.specs.{Running.{Finish, Running, Finished, TrappedBy, Limited, Run, mrun, running}, Homes.{Owner, Of, Own, Fixed, Free, Home, address, shape_there, Extends, lives, Mem}, Waits.{stutter, Frame, locals_in, parameters_in, own_words, top_of, frames_of, is_of, sees, Stack, Setting, Quiet, Around, Ahead}}
 
 -- a run that has shown no more, and goes on
 pub record IsStill (w : World) (run : Run) : Type 0 where
   pub world : run.world ≡ w
   pub finish : run.finish ≡ Running
 
--- A frame's words, and those above it up to a place, are the machine's own, or those of its variables behind the mark: at most a whole
--- expression stack and its length are above it.
+-- A frame's words, and those of its pending calls above it, are the machine's own, or those of its variables behind the mark.
 pub record OwnWords (owner : ℕ → Owner) (f : Frame) (top : ℕ) : Type 0 where
   pub mark : 4 + own_words f ≤ f.layout.frame
-  pub below : f.at + f.layout.frame ≤ top
-  pub most : top ≤ f.at + (f.layout.frame + 17)
+  pub top_is : top ≡ top_of f
   pub own : (i : ℕ) → (i < 4) ⊎ (4 + own_words f ≤ i) → f.at + i < top → owner (f.at + i) ≡ Own
   pub mine : (i : ℕ) → f.at + i < top → (owner (f.at + i) ≡ Own) ⊎ ((x : ℕ) × (owner (f.at + i) ≡ Of (Local f.activation x)))
 
@@ -102,18 +100,36 @@ abbrev pub HasCodes : Module → List Procedure → Layout → Type 0
 HasCodes own ps l = (p : ℕ) (its : Procedure) → procedure_by ps p ≡ Some its → Entered own l p its
 
 module _ (activations : List Activation) (h : Home) where
-  -- the activation of a frame has its variables, each a slot, which live in its frame behind the mark
+  -- the activation of a frame has its variables, each in a slot of its own, which live in its frame behind the mark
   pub record HasLocals (f : Frame) : Type 0 where
     pub its : Activation
     pub runs : slice_get activations f.activation ≡ Some its
-    pub slots : its.slots ≡ map own_slot (locals_in f)
     pub variables : (x offset : ℕ) (t : Shape) → slice_get (offsets_from 4 (locals_in f)) x ≡ Some offset → slice_get (locals_in f) x ≡ Some t → is_there t ≡ true
-        → (h.shape (Local f.activation x) ≡ t) × (h.base (Local f.activation x) ≡ f.at + offset)
+        → (slice_get its.slots x ≡ Some Here) × (h.shape (Local f.activation x) ≡ t) × (h.base (Local f.activation x) ≡ f.at + offset)
 
   -- frames have different activations
   abbrev pub EachLocal : List Frame → Type 0
   EachLocal [] = Unit {0}
   EachLocal (f ∷ fs) = HasLocals f × (list_any (is_of f.activation) fs ≡ false) × EachLocal fs
+
+  -- what was handed in for a VAR parameter is a place that the frames below can name, and a word of the frame has its address
+  pub record HandedIn (f : Frame) (under : List Frame) (x offset : ℕ) (t : Shape) : Type 0 where
+    pub its : Activation
+    pub runs : slice_get activations f.activation ≡ Some its
+    pub place : Place
+    pub slot : slice_get its.slots x ≡ Some (At place)
+    pub seen : sees under place.root ≡ true
+    pub living : shape_there h place ≡ t
+    pub own : h.owner (f.at + offset) ≡ Own
+    pub word : h.shadow (f.at + offset) ≡ address h place
+
+  abbrev pub HasHanded : Frame → List Frame → Type 0
+  HasHanded f under = (x offset : ℕ) (t : Shape) → slice_get (offsets_from 4 (locals_in f)) x ≡ Some offset → slice_get (parameters_in f) x ≡ Some (Address t) → is_there t ≡ true → HandedIn f under x offset t
+
+  -- that of each frame, where these bodies are to run behind them
+  abbrev pub EachHanded : List Frame → List Frame → Type 0
+  EachHanded [] bodies = Unit {0}
+  EachHanded (f ∷ fs) bodies = HasHanded f (fs ++ bodies) × EachHanded fs bodies
 
 module _ (library : List Resolved) (loaded : List ℕ) (table : List Module) (activations : List Activation) (h : Home) where
   -- A frame's module is loaded, its activation runs in it, and its variables live where its layout says. The words of its strings, behind
@@ -201,6 +217,7 @@ module _ (ctx : Setting) where
     pub stands : Stands h.owner st.base r.top st.frame st.callers
     pub links : Chained h.shadow activations st.frame st.callers
     pub locals : EachLocal activations h (frames_of st)
+    pub handed : EachHanded activations h (st.frame ∷ st.callers) st.bodies
     pub room : (a : ℕ) → r.top ≤ a → a < st.limit → h.owner a ≡ Free st.base
     pub based : 1 ≤ st.base
     pub low : r.top ≤ st.limit
@@ -266,9 +283,9 @@ module _ (ctx : Setting) where
 pub record IsShort (library : List Resolved) (base : ℕ) (t : Source) : Type 0 where
   pub less : 65535 < base + chain_of library t + heap_words t.objects t.workspaces
 
--- the limit of the stack comes only at a call, or at a body behind another: there is more than one activation
+-- the limit of the stack comes only at a call, or at a body behind another
 abbrev pub Short : List Resolved → (base : ℕ) → Source → LimitKind → Type 0
-Short library base t limit.Stack = IsShort library base t × (1 < length t.activations)
+Short library base t limit.Stack = IsShort library base t × HasCalls library t
 Short library base t limit.Store = IsShort library base t
 Short library base t _ = ⊥
 

@@ -1,19 +1,24 @@
 -- What is left stays where homes agree on what it speaks of: this carries rows and frames over every change of the machine's own words.
-use Rattle.std.proofs.Common.{◌≡◌, ℕ, suc, ◌+◌, ◌<◌, ◌≤◌, inl, inr, true, false, ◌||◌, eqb, List, [], ◌∷◌, ◌++◌, set, get_or, refl, sym, ap, ◌∙◌, subst, ⊎_elim, arith}
-use Rattle.std.proofs.lemmas.Bool.{ne_eqb}
-use Rattle.std.specs.List.{list_any}
-use Rattle.std.specs.Prelude.{Bool, Option, Some, None, slice_get}
-use Rattle.lil_resolved.specs.{Kinds.{Workspaces, Kind, OfCharacter, OfSet, OfPointer, Scalar, within, Shape, Absent, Word, Row, is_there, part_at, offset}, Resolved.{Resolved, kind_of}}
-use Rattle.lil_meaning.specs.Items.{Root, Global, Local, Object, Place, Datum, Scalars, Places, Wholes, Opens, Texts, IndexAt, StoreAt, CopyFrom, ChangeAt, RightOf, MemberOf, MembersFrom, MembersTo, MemberAt, AllocateAt, Pass, PassArray, LimitOf, Passing, Looping, Turns, Holding, End, Item, Value, Fill, Perform, Activation, Source}
+use Rattle.std.proofs.Common.{◌≡◌, ℕ, zero, suc, length, ◌+◌, ◌<◌, ◌≤◌, inl, inr, true, eqb, List, [], ◌∷◌, ◌++◌, set, get_or, refl, sym, ap, ◌∙◌, subst, ⊎_elim, arith}
+use Rattle.std.proofs.lemmas.{Bool.{ne_eqb}, Option.{none-some, same_Some}}
+use Rattle.std.specs.Prelude.{Option, Some, None, slice_get}
+use Rattle.lil_resolved.specs.{Kinds.{Workspaces, Kind, OfCharacter, OfSet, OfPointer, Scalar, within, Shape, Absent, Word, Row, Address, Opened, words as size, is_there, part_at, offset, all_words, offsets_from}, Resolved.{Resolved, Argument, kind_of, shape_of}, Plain.parameter_variable}
+use Rattle.lil_meaning.specs.Items.{Root, Global, Local, Object, Place, Datum, Scalars, Places, Wholes, Opens, Texts, Requested, Called, IndexAt, StoreAt, CopyFrom, ChangeAt, RightOf, MemberOf, MembersFrom, MembersTo, MemberAt, AllocateAt, Pass, PassPlace, PassArray, LimitOf, Passing, Looping, Turns, Holding, End, Item, Value, Fill, Perform, Activation, Source}
 use Rattle.lil_meaning.specs.Steps.{outer_of, surrounding}
 use Rattle.lil_mcode.specs.Table.{Module, StackRegisters, State, stack_of}
 use Rattle.lil_table.specs.Rows.{Layout, holding, Access, OnTop, loop_place}
-use Rattle.lil_match.specs.{Parts.no, Homes.{word_for, word_kept, refers_kept, Refers, plain_refers, takes_plain, Extends, extends_self, lives, address, shape_there, Owner, Own, Fixed, own_fixed, Home, mem_shadowed, shadowed, replaced}}
-use Rattle.lil_match.specs.{Waits.{Mode, Quiet, ValueOf, AtPlace, Reach, AfterJumps, Onward, Part, Around, Frame, own_words, outside, frames_of, Setting, at_home, renewed, inside_with, with_frames, DatumOn, DataOn, sees, is_of, TurnsTask, Reaches, HasPlace, HasSet, needs, Behind, RowsOf, Rows}, Known.{known_kept, each_known, each_comes, sees_more, each_local}}
-use Rattle.lil_match.specs.Goes.{OwnWords, Stands, Grows, Linked, Chained, EachComes, Standing, Shared, Touches}
+use Rattle.lil_match.specs.{Parts.no, Homes.{word_for, word_kept, refers_kept, is_word_kept, Refers, plain_refers, takes_plain, Extends, extends_self, lives, address, shape_there, Owner, Own, Fixed, own_fixed, Home, mem_shadowed, shadowed, replaced}}
+use Rattle.lil_match.specs.{Waits.{Mode, Quiet, ValueOf, AtPlace, Reach, AfterJumps, Onward, Part, Around, Frame, own_words, locals_in, top_of, outside, frames_of, Setting, at_home, renewed, inside_with, pushing, with_frames, DatumOn, DataOn, IsLink, GivenWord, AllGiven, Pending, sees, TurnsTask, Reaches, HasPlace, HasSet, needs, Behind, RowsOf, Rows}, Known.{known_kept, each_known, each_comes, sees_more, each_local}}
+use Rattle.lil_match.specs.Goes.{OwnWords, Stands, Grows, Linked, Chained, HasHanded, EachHanded, EachComes, Standing, Shared, Touches}
+
+-- the words that pending calls have put above the running frame stay
+abbrev pub PushedKept : Home → Home → List Frame → Type 0
+PushedKept h x [] = Unit {0}
+PushedKept h x (f ∷ fs) = (i : ℕ) → i < f.pushed → x.shadow (f.at + (f.layout.frame + i)) ≡ h.shadow (f.at + (f.layout.frame + i))
 
 -- homes that agree on the roots that live and that frames can name, and on the machine's own words from one place to another
 pub record Keeps (h x : Home) (fs : List Frame) (low top : ℕ) : Type 0 where
+  pub pushed : PushedKept h x fs
   pub shadow : (a : ℕ) → low ≤ a → a < top → x.shadow a ≡ h.shadow a
   pub base : (r : Root) → sees fs r ≡ true → lives h r ≡ true → x.base r ≡ h.base r
   pub shape : (r : Root) → sees fs r ≡ true → lives h r ≡ true → x.shape r ≡ h.shape r
@@ -25,8 +30,9 @@ abbrev pub EachAbove : ℕ → List Frame → Type 0
 EachAbove low [] = Unit {0}
 EachAbove low (f ∷ fs) = (low ≤ f.at + 4) × EachAbove low fs
 
-pub keeps_under : (h x : Home) (f : Frame) (fs : List Frame) (low top less : ℕ) → less ≤ top → Keeps h x (f ∷ fs) low top → Keeps h x fs low less
-keeps_under h x f fs low top less le keeps = record {
+pub keeps_under : (h x : Home) (f : Frame) (fs : List Frame) (low top less : ℕ) → less ≤ top → PushedKept h x fs → Keeps h x (f ∷ fs) low top → Keeps h x fs low less
+keeps_under h x f fs low top less le pushed keeps = record {
+  pushed = pushed;
   shadow = λ a from below. keeps.shadow a from (omega (arith, le, below));
   base = λ r e. keeps.base r (sees_more f fs r e);
   shape = λ r e. keeps.shape r (sees_more f fs r e);
@@ -36,12 +42,16 @@ keeps_under h x f fs low top less le keeps = record {
 
 pub keeps_lower : (h x : Home) (fs : List Frame) (low top less : ℕ) → less ≤ top → Keeps h x fs low top → Keeps h x fs low less
 keeps_lower h x fs low top less le keeps =
-    record { shadow = λ a from below. keeps.shadow a from (omega (arith, le, below)); base = keeps.base; shape = keeps.shape; targets = keeps.targets; workspaces = keeps.workspaces }
+    record { pushed = keeps.pushed; shadow = λ a from below. keeps.shadow a from (omega (arith, le, below)); base = keeps.base; shape = keeps.shape; targets = keeps.targets; workspaces = keeps.workspaces }
 
 -- where something lies, its root lives
 root_there : (t : Shape) (p : List ℕ) → is_there (part_at t p) ≡ true → is_there t ≡ true
 root_there Absent [] e = e
 root_there Absent (i ∷ p) e = e
+root_there (Address to) [] e = e
+root_there (Address to) (i ∷ p) e = e
+root_there (Opened to) [] e = e
+root_there (Opened to) (i ∷ p) e = e
 root_there t p e = refl
 
 pub place_lives : (h : Home) (place : Place) (t : Shape) → shape_there h place ≡ t → is_there t ≡ true → lives h place.root ≡ true
@@ -95,6 +105,25 @@ module _ (ctx : Setting) (acts : List Activation) (x : Home) (n low top : ℕ) (
   data_kept [] stack below r = r
   data_kept (d ∷ ds) stack below r = (r.0, datum_kept d r.0 below r.1, data_kept ds stack r.0 r.2)
 
+  -- what was given for a parameter
+  pub given_word : (t : Shape) (d : Datum) (w : ℕ) → GivenWord ctx t d w → GivenWord (renewed ctx acts x n) t d w
+  given_word (Word k) (Scalars v) w r = is_word_kept h x (λ o e. keeps.base (Object o) refl e) (λ o e. keeps.shape (Object o) refl e) keeps.targets keeps.workspaces k v w r
+  given_word (Address t) (Places place) w r =
+      let alive = place_lives h place t r.living r.there in
+      let same = keeps.shape place.root r.seen alive in
+      let at : address h place ≡ address x place = omega (arith, keeps.base place.root r.seen alive, ap (λ (t : Shape). offset t place.path) same) in
+      record { seen = r.seen; living = ap (λ (t : Shape). part_at t place.path) same ∙ r.living; there = r.there; word = r.word ∙ at }
+  given_word t d w r = absurd r
+
+  pub all_given : (ts : List Shape) (ds : List Datum) (at : ℕ) → ((i : ℕ) → i < length ds → x.shadow (at + i) ≡ h.shadow (at + i)) → AllGiven ctx ts ds at → AllGiven (renewed ctx acts x n) ts ds at
+  all_given [] [] at same r = r
+  all_given (t ∷ ts) (d ∷ ds) at same r =
+      let first : x.shadow at ≡ h.shadow at = ap x.shadow (let e : at ≡ at + 0 = omega arith in e) ∙ same 0 (omega arith) ∙ ap h.shadow (let e : at + 0 ≡ at = omega arith in e) in (
+        subst (GivenWord (renewed ctx acts x n) t d) (sym first) (given_word t d (h.shadow at) r.0),
+        all_given ts ds (suc at) (λ i less. let e : suc at + i ≡ at + suc i = omega arith in ap x.shadow e ∙ same (suc i) (omega (arith, less)) ∙ ap h.shadow (sym e)) r.1,
+      )
+  all_given ts ds at same r = absurd r
+
   met : (t : Mode) (i : Item) (p : ℕ) (stack : List ℕ) (a : Around) → (r : (needs ctx t i p stack a).Here) → IsMet (needs ctx t i p stack a) (needs (renewed ctx acts x n) t i p stack a) r
   met Quiet (Value (Scalars v)) p stack a r =
       record {
@@ -139,14 +168,14 @@ module _ (ctx : Setting) (acts : List Activation) (x : Home) (n low top : ℕ) (
       let from : Kind = kind_of r.first in
       let plain = plain_refers h from v (takes_plain k from r.row.did.here.takes).1 in
       record { part = record { first = r.first; row = r.row; fits = r.fits; is = r.is ∙ ap (λ (w : ℕ). w ∷ []) (word from v r.fits plain) }; onto = refl }
-  met (ValueOf j) (Fill (Pass q k done left)) p stack a r =
+  met (ValueOf j) (Fill (Pass (Requested q) k done left)) p stack a r =
       record { part = record { takes = r.takes; on = data_kept done stack [] r.on; tested = r.tested; test = r.test; rest = r.rest }; onto = refl }
-  met (AtPlace d) (Fill (PassArray q high done left)) p stack a r =
+  met (AtPlace d) (Fill (PassArray (Requested q) high done left)) p stack a r =
       record {
         part = record { rows = r.rows; room = r.room; on = data_kept done stack [] r.on; start = r.start; last = r.last; address = r.address; by = r.by; rest = r.rest };
         onto = refl;
       }
-  met Quiet (Perform (Passing q done left)) p stack a r =
+  met Quiet (Perform (Passing (Requested q) done left)) p stack a r =
       record { part = record { on = data_kept done stack [] r.on; rest = r.rest }; onto = refl }
   met t i p stack a r = record { part = r; onto = refl }
 
@@ -163,7 +192,28 @@ keeps_around ctx before x shape n low top less is le keeps =
     let inner = subst (λ (c : Setting). Keeps c.home x (frames_of c.stack) low top) is keeps in
     let same = sees_laid before.stack.frame (holding before.stack.frame.layout shape n) (before.stack.callers ++ before.stack.bodies) in
     record {
+      pushed = inner.pushed;
       shadow = λ a from below. inner.shadow a from (omega (arith, le, below));
+      base = λ r e. inner.base r (same r ∙ e);
+      shape = λ r e. inner.shape r (same r ∙ e);
+      targets = inner.targets;
+      workspaces = inner.workspaces;
+    }
+
+-- the roots that frames can name don't hang on what is pushed
+pub sees_pushed : (f : Frame) (n : ℕ) (fs : List Frame) (r : Root) → sees (record f { pushed = n } ∷ fs) r ≡ sees (f ∷ fs) r
+sees_pushed f n fs (Global m x) = refl
+sees_pushed f n fs (Local a x) = refl
+sees_pushed f n fs (Object o) = refl
+
+-- homes that agree during a call's arguments agree around it
+keeps_before : (ctx before : Setting) (x : Home) (more low top : ℕ) → ctx ≡ pushing before more → Keeps ctx.home x (frames_of ctx.stack) low (ctx.stack.frame.at + top) → Keeps before.home x (frames_of before.stack) low (before.stack.frame.at + top)
+keeps_before ctx before x more low top is keeps =
+    let inner = subst (λ (c : Setting). Keeps c.home x (frames_of c.stack) low (c.stack.frame.at + top)) is keeps in
+    let same = sees_pushed before.stack.frame (more + before.stack.frame.pushed) (before.stack.callers ++ before.stack.bodies) in
+    record {
+      pushed = λ i less. inner.pushed i (omega (arith, less));
+      shadow = inner.shadow;
       base = λ r e. inner.base r (same r ∙ e);
       shape = λ r e. inner.shape r (same r ∙ e);
       targets = inner.targets;
@@ -193,11 +243,14 @@ behind_kept k acts rows ctx x n low c above keeps r = by ctx.stack.callers ctx.s
           called = r.called;
           outer = r.outer;
           under = r.under;
+          mark = r.mark;
+          pushed = r.pushed;
           frame = keeps.shadow (ctx.stack.frame.at + 1) from (omega arith) ∙ r.frame;
           place = keeps.shadow (ctx.stack.frame.at + 2) (omega (arith, from)) (omega arith) ∙ r.place;
           module' = keeps.shadow (ctx.stack.frame.at + 3) (omega (arith, from)) (omega arith) ∙ r.module';
           then = rows (with_frames ctx g gs bs) x n low above.1 Quiet ctx.stack.frame.back [] c r.outer
-              (keeps_under ctx.home x ctx.stack.frame (g ∷ (gs ++ bs)) low (ctx.stack.frame.at + 4) (g.at + loop_place r.outer.taken) (omega (arith, r.under)) keeps) r.then;
+              (keeps_under ctx.home x ctx.stack.frame (g ∷ (gs ++ bs)) low (ctx.stack.frame.at + 4) (g.at + loop_place r.outer.taken) (omega (arith, r.under))
+              (λ i less. keeps.shadow (g.at + (g.layout.frame + i)) (omega (arith, above.1.0, r.mark)) (omega (arith, less, r.pushed))) keeps) r.then;
         }
     by [] (b ∷ bs) above keeps r =
         record {
@@ -205,12 +258,47 @@ behind_kept k acts rows ctx x n low c above keeps r = by ctx.stack.callers ctx.s
           low = r.low;
           plain = r.plain;
           bare = r.bare;
+          idle = r.idle;
           start = r.start;
           enter = r.enter;
           then = rows (with_frames ctx b [] bs) x n low above.1 Quiet r.start [] c (outside b)
-              (keeps_under ctx.home x ctx.stack.frame (b ∷ bs) low (ctx.stack.frame.at + 4) (b.at + loop_place (own_words b)) (omega (arith, r.low, r.bare)) keeps) r.then;
+              (keeps_under ctx.home x ctx.stack.frame (b ∷ bs) low (ctx.stack.frame.at + 4) (b.at + loop_place (own_words b)) (omega (arith, r.low, r.bare)) (λ i less. absurd (omega (arith, less, r.idle))) keeps) r.then;
         }
     by [] [] above keeps r = r
+
+pub pending_kept : (k : List Item) (acts : List Activation) (rows : (ctx : Setting) (x : Home) (n low : ℕ) → Again k ctx acts x n low) (ctx : Setting) (x : Home) (n low : ℕ) → EachAbove low (frames_of ctx.stack)
+    → (q levels : ℕ) (done : List Datum) (next : List Shape) (left : List Argument) (p c : ℕ) (a : Around) → Keeps ctx.home x (frames_of ctx.stack) low (ctx.stack.frame.at + loop_place a.taken)
+    → Pending ctx q levels done next left (RowsOf k) p c a → Pending (renewed ctx acts x n) q levels done next left (RowsOf k) p c a
+pending_kept k acts rows ctx x n low above q levels done next left p c a keeps w =
+    let top : ℕ = top_of w.before.stack.frame in
+    let under : ℕ = w.before.stack.frame.pushed in
+    let same : (i : ℕ) → i < 4 + length done → x.shadow (top + i) ≡ ctx.home.shadow (top + i) =
+    λ i less.
+    let e : top + i ≡ ctx.stack.frame.at + (ctx.stack.frame.layout.frame + (under + i)) =
+    omega (arith, ap (λ (c : Setting). c.stack.frame.at) w.is, ap (λ (c : Setting). c.stack.frame.layout.frame) w.is) in
+    ap x.shadow e ∙ keeps.pushed (under + i) (omega (arith, less, ap (λ (c : Setting). c.stack.frame.pushed) w.is)) ∙ ap ctx.home.shadow (sym e) in
+    record {
+      before = renewed w.before acts x n;
+      is = ap (λ (c : Setting). renewed c acts x n) w.is;
+      outer = w.outer;
+      around = w.around;
+      may = w.may;
+      shapes = w.shapes;
+      takes = w.takes;
+      room = w.room;
+      link = subst (IsLink ctx.stack.frame.display levels) (let e : top ≡ top + 0 = omega arith in ap ctx.home.shadow e ∙ sym (same 0 (omega arith)) ∙ ap x.shadow (sym e)) w.link;
+      given = all_given ctx acts x n low (ctx.stack.frame.at + loop_place a.taken) keeps w.shapes done (top + 4)
+          (λ i less. let e : top + 4 + i ≡ top + (4 + i) = omega arith in ap x.shadow e ∙ same (4 + i) (omega (arith, less)) ∙ ap ctx.home.shadow (sym e)) w.given;
+      middle = w.middle;
+      arguments = w.arguments;
+      end = w.end;
+      call = w.call;
+      within = w.within;
+      then = rows w.before x n low (subst (λ (c : Setting). EachAbove low (frames_of c.stack)) w.is above) Quiet w.end [] c w.outer
+          (subst (λ (t : ℕ). Keeps w.before.home x (frames_of w.before.stack) low (w.before.stack.frame.at + loop_place t)) (ap (λ (o : Around). o.taken) w.around)
+          (keeps_before ctx w.before x (4 + length done) low (loop_place a.taken) w.is keeps))
+          w.then;
+    }
 
 -- the jumps before a row are those before another one
 jumps_same : (code : List ℕ) (row other : Reach) (t : Mode) (p : ℕ) (stack : List ℕ) (c : ℕ) (a : Around) (r : AfterJumps code row t p stack c a) → other t r.start stack r.later a → AfterJumps code other t p stack c a
@@ -318,10 +406,36 @@ rows_renewed (Perform (End e) ∷ k) ctx acts x n low above t p stack c a keeps 
       activation = w.activation;
       alone = w.alone;
       free = w.free;
+      idle = w.idle;
       end = w.end;
       leave = w.leave;
       behind = behind_kept k acts (λ y z i l. rows_renewed k y acts z i l) ctx x n low r.later above
           (keeps_lower ctx.home x (frames_of ctx.stack) low (ctx.stack.frame.at + loop_place a.taken) (ctx.stack.frame.at + 4) (omega arith) keeps) w.behind;
+    })
+rows_renewed (Fill (Pass (Called q levels) kind done left) ∷ k) ctx acts x n low above t p stack c a keeps r =
+    let w = r.there in
+    jumps_same ctx.stack.frame.piece _ _ t p stack c a r (record {
+      from = w.from;
+      mode = w.mode;
+      empty = w.empty;
+      stores = w.stores;
+      tested = w.tested;
+      test = w.test;
+      start = w.start;
+      push = w.push;
+      pending = pending_kept k acts (λ y z i l. rows_renewed k y acts z i l) ctx x n low above q levels done (Word kind ∷ []) left w.start r.later a keeps w.pending;
+    })
+rows_renewed (Fill (PassPlace (Called q levels) done left) ∷ k) ctx acts x n low above t p stack c a keeps r =
+    let w = r.there in
+    jumps_same ctx.stack.frame.piece _ _ t p stack c a r (record {
+      of = w.of;
+      mode = w.mode;
+      empty = w.empty;
+      tested = w.tested;
+      address = w.address;
+      start = w.start;
+      push = w.push;
+      pending = pending_kept k acts (λ y z i l. rows_renewed k y acts z i l) ctx x n low above q levels done (Address (shape_of ctx.stack.frame.layout.scope w.of) ∷ []) left w.start r.later a keeps w.pending;
     })
 rows_renewed (i ∷ k) ctx acts x n low above t p stack c a keeps r =
     let m = met ctx acts x n low (ctx.stack.frame.at + loop_place a.taken) keeps t i r.start stack a r.there.part in
@@ -345,14 +459,13 @@ stands_above owner base top f [] bs s above = (omega (arith, s.1), (omega (arith
 stands_above owner base top f (g ∷ gs) bs s above =
     let r = stands_above owner base f.at g gs bs s.1 above in
     let w = first_words owner base f.at g gs s.1 in
-    (omega (arith, r.0, w.below), (omega (arith, r.0, w.below), r.1))
+    (omega (arith, r.0, w.top_is), (omega (arith, r.0, w.top_is), r.1))
 
 -- frames stand as long as their words are the machine's own
 words_kept : (owner new : ℕ → Owner) (base top : ℕ) (f : Frame) → base ≤ f.at → ((a : ℕ) → base ≤ a → a < top → new a ≡ owner a) → OwnWords owner f top → OwnWords new f top
 words_kept owner new base top f low same w = record {
   mark = w.mark;
-  below = w.below;
-  most = w.most;
+  top_is = w.top_is;
   own = λ i free l. same (f.at + i) (omega (arith, low)) l ∙ w.own i free l;
   mine = λ i l. let here = same (f.at + i) (omega (arith, low)) l in ⊎_elim (λ own. inl (here ∙ own)) (λ one. inr (one.0, here ∙ one.1)) (w.mine i l);
 }
@@ -362,7 +475,7 @@ stands_kept owner new base top f [] same s = (words_kept owner new base top f (o
 stands_kept owner new base top f (g ∷ gs) same s =
     let w = first_words owner base top f (g ∷ gs) s in (
       words_kept owner new base top f (stands_above owner base top f (g ∷ gs) [] s tt).0 same s.0,
-      stands_kept owner new base f.at g gs (λ a from below. same a from (omega (arith, below, w.below))) s.1,
+      stands_kept owner new base f.at g gs (λ a from below. same a from (omega (arith, below, w.top_is))) s.1,
     )
 
 comes_above : (library : List Resolved) (loaded : List ℕ) (table : List Module) (activations : List Activation) (h : Home) (low : ℕ) (bs : List Frame)
@@ -377,6 +490,11 @@ pub stack_above : (ctx : Setting) (r : StackRegisters) → Standing ctx r → (c
 stack_above ctx r s = stands_above ctx.home.owner ctx.stack.base r.top ctx.stack.frame ctx.stack.callers ctx.stack.bodies s.stands (all_above ctx r s)
 
 -- the words of the FORs and WITHs around lie behind those of the variables
+pending_behind : (ctx : Setting) (q levels : ℕ) (done : List Datum) (next : List Shape) (left : List Argument) (k : List Item) (p c : ℕ) (a : Around) → Pending ctx q levels done next left (RowsOf k) p c a
+    → ((y : Setting) (p c : ℕ) (a : Around) → Rows y k Quiet p [] c a → own_words y.stack.frame ≤ a.taken) → own_words ctx.stack.frame ≤ a.taken
+pending_behind ctx q levels done next left k p c a w rest =
+    omega (arith, rest w.before w.end c w.outer w.then, ap (λ (o : Around). o.taken) w.around, ap (λ (y : Setting). own_words y.stack.frame) w.is)
+
 pub loops_behind : (k : List Item) (ctx : Setting) (t : Mode) (p : ℕ) (stack : List ℕ) (c : ℕ) (a : Around) → Rows ctx k t p stack c a → own_words ctx.stack.frame ≤ a.taken
 loops_behind [] ctx t p stack c a r = absurd r
 loops_behind (Perform (Looping body) ∷ k) ctx t p stack c a r = omega (arith, ap (λ (o : Around). o.taken) r.there.is, loops_behind k ctx _ _ _ _ r.there.outer r.there.then)
@@ -385,9 +503,19 @@ loops_behind (Perform (Turns n kind z step left body) ∷ k) ctx t p stack c a r
 loops_behind (Perform (Holding place) ∷ k) ctx t p stack c a r =
     omega (arith, ap (λ (o : Around). o.taken) r.there.around, loops_behind k r.there.before _ _ _ _ r.there.outer r.there.then, ap (λ (c : Setting). own_words c.stack.frame) r.there.is)
 loops_behind (Perform (End n) ∷ k) ctx t p stack c a r = omega (arith, ap (λ (o : Around). o.taken) r.there.alone)
+loops_behind (Fill (Pass (Called q levels) kind done left) ∷ k) ctx t p stack c a r = pending_behind ctx q levels done _ left k _ _ a r.there.pending (λ y p c a. loops_behind k y Quiet p [] c a)
+loops_behind (Fill (PassPlace (Called q levels) done left) ∷ k) ctx t p stack c a r = pending_behind ctx q levels done _ left k _ _ a r.there.pending (λ y p c a. loops_behind k y Quiet p [] c a)
 loops_behind (i ∷ k) ctx t p stack c a r = loops_behind k ctx _ _ _ _ _ r.there.then
 
 -- and in the frame
+pub pending_fits : (ctx : Setting) (q levels : ℕ) (done : List Datum) (next : List Shape) (left : List Argument) (k : List Item) (p c : ℕ) (a : Around) → 4 + own_words ctx.stack.frame ≤ ctx.stack.frame.layout.frame
+    → Pending ctx q levels done next left (RowsOf k) p c a → ((y : Setting) (p c : ℕ) (a : Around) → 4 + own_words y.stack.frame ≤ y.stack.frame.layout.frame → Rows y k Quiet p [] c a → loop_place a.taken ≤ y.stack.frame.layout.frame)
+    → loop_place a.taken ≤ ctx.stack.frame.layout.frame
+pending_fits ctx q levels done next left k p c a mark w rest =
+    let frame : ctx.stack.frame.layout.frame ≡ w.before.stack.frame.layout.frame = ap (λ (y : Setting). y.stack.frame.layout.frame) w.is in
+    let words : own_words ctx.stack.frame ≡ own_words w.before.stack.frame = ap (λ (y : Setting). own_words y.stack.frame) w.is in
+    omega (arith, rest w.before w.end c w.outer (omega (arith, mark, frame, words)) w.then, ap (λ (o : Around). o.taken) w.around, frame)
+
 pub loops_fit : (k : List Item) (ctx : Setting) (t : Mode) (p : ℕ) (stack : List ℕ) (c : ℕ) (a : Around) → 4 + own_words ctx.stack.frame ≤ ctx.stack.frame.layout.frame → Rows ctx k t p stack c a
     → loop_place a.taken ≤ ctx.stack.frame.layout.frame
 loops_fit [] ctx t p stack c a mark r = absurd r
@@ -398,6 +526,8 @@ loops_fit (Perform (Turns n kind z step left body) ∷ k) ctx t p stack c a mark
 loops_fit (Perform (Holding place) ∷ k) ctx t p stack c a mark r =
     omega (arith, ap (λ (o : Around). o.taken) r.there.around, r.there.room, ap (λ (c : Setting). c.stack.frame.layout.frame) r.there.is)
 loops_fit (Perform (End n) ∷ k) ctx t p stack c a mark r = omega (arith, ap (λ (o : Around). o.taken) r.there.alone, mark)
+loops_fit (Fill (Pass (Called q levels) kind done left) ∷ k) ctx t p stack c a mark r = pending_fits ctx q levels done _ left k _ _ a mark r.there.pending (λ y p c a. loops_fit k y Quiet p [] c a)
+loops_fit (Fill (PassPlace (Called q levels) done left) ∷ k) ctx t p stack c a mark r = pending_fits ctx q levels done _ left k _ _ a mark r.there.pending (λ y p c a. loops_fit k y Quiet p [] c a)
 loops_fit (i ∷ k) ctx t p stack c a mark r = loops_fit k ctx _ _ _ _ _ mark r.there.then
 
 -- activations stay linked as long as the first words of their frames stay
@@ -418,8 +548,53 @@ chained_kept old new acts more grows owner base top f [] stands same c =
 chained_kept old new acts more grows owner base top f (g ∷ gs) stands same c =
     let low = first_words owner base f.at g gs stands.1 in (
       linked_kept old new acts more grows f.activation f.number f.at f.display f.layout.scope.chain (g ∷ gs) (same f.at (stands_above owner base top f (g ∷ gs) [] stands tt).0 (omega arith)) c.0,
-      chained_kept old new acts more grows owner base f.at g gs stands.1 (λ a from below. same a from (omega (arith, below, low.below))) c.1,
+      chained_kept old new acts more grows owner base f.at g gs stands.1 (λ a from below. same a from (omega (arith, below, low.top_is))) c.1,
     )
+
+-- ---- what was handed in stays where the words of frames and their variables do
+pub offset_low : (k : ℕ) (ts : List Shape) (x offset : ℕ) (t : Shape) → slice_get (offsets_from k ts) x ≡ Some offset → slice_get ts x ≡ Some t → (k ≤ offset) × (offset + size t ≤ k + all_words ts)
+offset_low k [] x offset t at typed = absurd (none-some t typed)
+offset_low k (u ∷ ts) zero offset t at typed =
+    let here = same_Some k offset at in
+    (omega (arith, here), omega (arith, here, ap size (same_Some u t typed)))
+offset_low k (u ∷ ts) (suc x) offset t at typed =
+    let rest = offset_low (k + size u) ts x offset t at typed in
+    (omega (arith, rest.0), omega (arith, rest.1))
+
+module _ (activations more : List Activation) (grows : Grows more activations) (h x : Home) (bodies : List Frame) where
+  handed_kept : (f : Frame) (under : List Frame) → ((i : ℕ) → 4 ≤ i → i < 4 + own_words f → (x.owner (f.at + i) ≡ h.owner (f.at + i)) × (x.shadow (f.at + i) ≡ h.shadow (f.at + i)))
+      → ((r : Root) → sees under r ≡ true → lives h r ≡ true → x.base r ≡ h.base r) → ((r : Root) → sees under r ≡ true → lives h r ≡ true → x.shape r ≡ h.shape r) → HasHanded activations h f under → HasHanded more x f under
+  handed_kept f under same base shape handed y o t at typed there =
+      let l = handed y o t at typed there in
+      let low = offset_low 4 (locals_in f) y o (Address t) at (parameter_variable f.layout.scope 0 y (Address t) typed) in
+      let word = same o low.0 (omega (arith, low.1)) in
+      let alive = place_lives h l.place t l.living there in
+      let kept = shape l.place.root l.seen alive in
+      let moved : address h l.place ≡ address x l.place = omega (arith, base l.place.root l.seen alive, ap (λ (t : Shape). offset t l.place.path) kept) in
+      record {
+        its = l.its;
+        runs = grows f.activation l.its l.runs;
+        place = l.place;
+        slot = l.slot;
+        seen = l.seen;
+        living = ap (λ (t : Shape). part_at t l.place.path) kept ∙ l.living;
+        own = word.0 ∙ l.own;
+        word = word.1 ∙ l.word ∙ moved;
+      }
+
+  pub each_handed : (base top : ℕ) (f : Frame) (gs : List Frame) → Stands h.owner base top f gs → ((a : ℕ) → base ≤ a → a < f.at + (4 + own_words f) → (x.owner a ≡ h.owner a) × (x.shadow a ≡ h.shadow a))
+      → ((r : Root) → sees (f ∷ (gs ++ bodies)) r ≡ true → lives h r ≡ true → x.base r ≡ h.base r) → ((r : Root) → sees (f ∷ (gs ++ bodies)) r ≡ true → lives h r ≡ true → x.shape r ≡ h.shape r)
+      → EachHanded activations h (f ∷ gs) bodies → EachHanded more x (f ∷ gs) bodies
+  each_handed base top f [] stands same bases shapes e = (
+    handed_kept f bodies (λ i from below. same (f.at + i) (omega (arith, stands.1)) (omega (arith, below))) (λ r s. bases r (sees_more f bodies r s)) (λ r s. shapes r (sees_more f bodies r s)) e.0,
+    tt,
+  )
+  each_handed base top f (g ∷ gs) stands same bases shapes e =
+      let low = first_words h.owner base f.at g gs stands.1 in (
+        handed_kept f (g ∷ (gs ++ bodies)) (λ i from below. same (f.at + i) (omega (arith, (stands_above h.owner base top f (g ∷ gs) [] stands tt).0)) (omega (arith, below)))
+            (λ r s. bases r (sees_more f (g ∷ (gs ++ bodies)) r s)) (λ r s. shapes r (sees_more f (g ∷ (gs ++ bodies)) r s)) e.0,
+        each_handed base f.at g gs stands.1 (λ a from below. same a from (omega (arith, below, low.top_is, low.mark))) (λ r s. bases r (sees_more f (g ∷ (gs ++ bodies)) r s)) (λ r s. shapes r (sees_more f (g ∷ (gs ++ bodies)) r s)) e.1,
+      )
 
 -- ---- one of the running frame's own words behind its variables is set
 module _ (ctx : Setting) (s : Source) (m : State) (shared : Shared ctx s m) (i w : ℕ) (free : 4 + own_words ctx.stack.frame ≤ i) (less : i < ctx.stack.frame.layout.frame) where
@@ -432,10 +607,10 @@ module _ (ctx : Setting) (s : Source) (m : State) (shared : Shared ctx s m) (i w
   words = first_words h.owner st.base m.top st.frame st.callers shared.standing.stands
 
   pub own_word : h.owner (st.frame.at + i) ≡ Own
-  own_word = words.own i (inr free) (omega (arith, words.below, less))
+  own_word = words.own i (inr free) (omega (arith, words.top_is, less))
 
   pub own_inside : (st.base ≤ st.frame.at + i) × (st.frame.at + i < st.limit)
-  own_inside = (omega (arith, (stack_above ctx (stack_of m) shared.standing).0), omega (arith, words.below, less, shared.standing.low))
+  own_inside = (omega (arith, (stack_above ctx (stack_of m) shared.standing).0), omega (arith, words.top_is, less, shared.standing.low))
 
   -- it lies in the store, which has what the home says
   pub own_low : m.frame + i < 65536
@@ -471,6 +646,7 @@ module _ (ctx : Setting) (s : Source) (m : State) (shared : Shared ctx s m) (i w
           stands = g.stands;
           links = chained_kept h.shadow (replaced h.shadow at w) ctx.activations ctx.activations (λ j b e. e) h.owner st.base m.top st.frame st.callers g.stands (λ a from below. other_word a (λ e. omega (arith, e, below, free))) g.links;
           locals = each_local ctx.activations ctx.activations (λ i b e. e) h (shadowed h at w) (frames_of st) (λ r s e. refl) (λ r s e. refl) g.locals;
+          handed = each_handed ctx.activations ctx.activations (λ i b e. e) h (shadowed h at w) st.bodies st.base m.top st.frame st.callers g.stands (λ a from below. (refl, other_word a (λ e. omega (arith, e, below, free)))) (λ r s e. refl) (λ r s e. refl) g.handed;
           room = g.room;
           based = g.based;
           low = g.low;
@@ -498,6 +674,7 @@ module _ (ctx : Setting) (s : Source) (m : State) (shared : Shared ctx s m) (i w
   rows_shadowed k t p stack c a below r =
       rows_kept k ctx (shadowed h at w) st.limit (st.base + 4) (stack_above ctx (stack_of m) shared.standing).1 t p stack c a
       (record {
+        pushed = λ j small. other_word (ctx.stack.frame.at + (ctx.stack.frame.layout.frame + j)) (λ e. omega (arith, e, less));
         shadow = λ b from under. other_word b (λ e. omega (arith, e, under, below));
         base = λ q e f. refl;
         shape = λ q e f. refl;

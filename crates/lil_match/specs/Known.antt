@@ -64,11 +64,10 @@ module _ (activations more : List Activation) (grows : Grows more activations) (
   locals_kept f base shape l = record {
     its = l.its;
     runs = grows f.activation l.its l.runs;
-    slots = l.slots;
     variables = λ y o t at typed there.
         let v = l.variables y o t at typed there in
-        let alive : is_there (h.shape (Local f.activation y)) ≡ true = ap is_there v.0 ∙ there in
-        (shape y alive ∙ v.0, base y alive ∙ v.1);
+        let alive : is_there (h.shape (Local f.activation y)) ≡ true = ap is_there v.1 ∙ there in
+        (v.0, shape y alive ∙ v.1, base y alive ∙ v.2);
   }
 
   pub each_local : (fs : List Frame) → ((r : Root) → sees fs r ≡ true → lives h r ≡ true → x.base r ≡ h.base r) → ((r : Root) → sees fs r ≡ true → lives h r ≡ true → x.shape r ≡ h.shape r) → EachLocal activations h fs → EachLocal more x fs

@@ -1,11 +1,11 @@
 -- What is around the running frame's WITHs: the same but for the records that its layout holds.
 use Rattle.std.proofs.Common.{◌≡◌, ℕ, ◌+◌, ◌<◌, ◌≤◌, inl, inr, Some, List, [], ◌∷◌, ◌++◌, length, get_or, refl, sym, ap, ◌∙◌, subst, ⊎_elim, arith}
-use Rattle.std.specs.Prelude.{slice_get, map}
-use Rattle.lil_resolved.specs.{Kinds.{Shape, all_words, locals_at, offsets_from}, Resolved.{Procedure, Resolved}}
-use Rattle.lil_meaning.specs.{Items.{Root, Global, Local, Object, Item, Activation, Source, loaded_at}, Need.frame_of, Steps.{own_slot, owner_of, procedure_of, procedures_of, procedure_name}}
+use Rattle.std.specs.Prelude.{slice_get}
+use Rattle.lil_resolved.specs.{Kinds.{Shape, all_words, locals_at, parameters_at, offsets_from}, Resolved.{Procedure, Resolved}}
+use Rattle.lil_meaning.specs.{Items.{Root, Global, Local, Object, Item, Activation, Source, loaded_at}, Need.frame_of, Steps.{owner_of, procedure_of, procedures_of, procedure_name}}
 use Rattle.lil_mcode.specs.Table.{Module, State, StackRegisters, stack_of}
 use Rattle.lil_table.specs.Rows.{Layout, holding}
-use Rattle.lil_match.specs.{Homes.Home, Goes.{IsNamed, IsPiece, OwnWords, Stands, Linked, Chained, IsPart, module_part, HasCodes, IsKnown, Standing, EachLocal, beyond, Shared, Goes}, Waits.{Frame, Setting, inside_with}}
+use Rattle.lil_match.specs.{Homes.Home, Goes.{IsNamed, IsPiece, OwnWords, Stands, Linked, Chained, IsPart, module_part, HasCodes, IsKnown, Standing, EachLocal, EachHanded, beyond, Shared, Goes}, Waits.{Frame, Setting, inside_with}}
 
 -- the running frame with another layout
 abbrev pub with_layout : Setting → Layout → Setting
@@ -25,9 +25,9 @@ codes_part own ps l m part codes p its is =
     record { inner = e.inner; part = e.part ∙ sym part; frame = e.frame; chain = e.chain; free = e.free; entry = e.entry; there = e.there; after = e.after; within = e.within; apart = e.apart; code = e.code }
 
 -- what is known of a frame is known of another one of the module
-module _ (library : List Resolved) (loaded : List ℕ) (table : List Module) (acts more : List Activation) (h : Home) (f : Frame) (m : Layout) (activation procedure entry after : ℕ) (piece : List ℕ) (at : ℕ) (display : List ℕ) (back : ℕ) (part : IsPart f.layout m) where
+module _ (library : List Resolved) (loaded : List ℕ) (table : List Module) (acts more : List Activation) (h : Home) (f : Frame) (m : Layout) (activation procedure entry after : ℕ) (piece : List ℕ) (at pushed : ℕ) (display : List ℕ) (back : ℕ) (part : IsPart f.layout m) where
   abbrev other : Frame
-  other = record { activation = activation; number = f.number; procedure = procedure; own = f.own; entry = entry; after = after; piece = piece; layout = m; at = at; display = display; back = back }
+  other = record { activation = activation; number = f.number; procedure = procedure; own = f.own; entry = entry; after = after; piece = piece; layout = m; at = at; pushed = pushed; display = display; back = back }
 
   strings : m.strings ≡ f.layout.strings
   strings = ap (λ (y : Layout). y.strings) part
@@ -80,13 +80,12 @@ module _ (ctx : Setting) (m : Layout) (alike : IsAlike ctx.stack.frame.layout m)
   same_locals = ap (λ (y : Layout). locals_at y.scope 0) alike
 
   known_laid : IsKnown ctx.library ctx.loaded ctx.table ctx.activations ctx.home ctx.stack.frame → IsKnown ctx.library ctx.loaded ctx.table ctx.activations ctx.home (record (ctx.stack.frame) { layout = m })
-  known_laid k = known_part ctx.library ctx.loaded ctx.table ctx.activations ctx.activations ctx.home f m f.activation f.procedure f.entry f.after f.piece f.at f.display f.back (ap module_part alike) k.its k.runs k.owner k.called (record { there = k.entered.there; apart = k.entered.apart }) (record { is = k.piece.is; within = k.piece.within }) (same_frame ∙ k.size) k
+  known_laid k = known_part ctx.library ctx.loaded ctx.table ctx.activations ctx.activations ctx.home f m f.activation f.procedure f.entry f.after f.piece f.at f.pushed f.display f.back (ap module_part alike) k.its k.runs k.owner k.called (record { there = k.entered.there; apart = k.entered.apart }) (record { is = k.piece.is; within = k.piece.within }) (same_frame ∙ k.size) k
 
   words_laid : (top : ℕ) → OwnWords ctx.home.owner ctx.stack.frame top → OwnWords ctx.home.owner (record (ctx.stack.frame) { layout = m }) top
   words_laid top w = record {
     mark = omega (arith, w.mark, same_frame, ap all_words same_locals);
-    below = omega (arith, w.below, same_frame);
-    most = omega (arith, w.most, same_frame);
+    top_is = omega (arith, w.top_is, same_frame);
     own = λ i free. w.own i (⊎_elim (λ (z : i < 4). inl z) (λ (z : 4 + all_words (locals_at m.scope 0) ≤ i). inr (omega (arith, z, ap all_words same_locals))) free);
     mine = w.mine;
   }
@@ -96,11 +95,21 @@ module _ (ctx : Setting) (m : Layout) (alike : IsAlike ctx.stack.frame.layout m)
     record {
       its = e.0.its;
       runs = e.0.runs;
-      slots = e.0.slots ∙ ap (map own_slot) (sym same_locals);
       variables = λ x o t at typed. e.0.variables x o t (ap (λ (ts : List Shape). slice_get (offsets_from 4 ts) x) (sym same_locals) ∙ at) (ap (λ (ts : List Shape). slice_get ts x) (sym same_locals) ∙ typed);
     },
     e.1,
     e.2,
+  )
+
+  same_parameters : parameters_at m.scope 0 ≡ parameters_at (ctx.stack.frame.layout.scope) 0
+  same_parameters = ap (λ (y : Layout). parameters_at y.scope 0) alike
+
+  handed_laid : (gs bs : List Frame) → EachHanded ctx.activations ctx.home (ctx.stack.frame ∷ gs) bs → EachHanded ctx.activations ctx.home (record (ctx.stack.frame) { layout = m } ∷ gs) bs
+  handed_laid gs bs e = (
+    λ x o t at typed there.
+        let l = e.0 x o t (ap (λ (ts : List Shape). slice_get (offsets_from 4 ts) x) (sym same_locals) ∙ at) (ap (λ (ts : List Shape). slice_get ts x) (sym same_parameters) ∙ typed) there in
+        record { its = l.its; runs = l.runs; place = l.place; slot = l.slot; seen = l.seen; living = l.living; own = l.own; word = l.word },
+    e.1,
   )
 
   stands_laid : (base top : ℕ) (gs : List Frame) → Stands ctx.home.owner base top ctx.stack.frame gs → Stands ctx.home.owner base top (record (ctx.stack.frame) { layout = m }) gs
@@ -123,6 +132,7 @@ module _ (ctx : Setting) (m : Layout) (alike : IsAlike ctx.stack.frame.layout m)
     stands = stands_laid ctx.stack.base r.top ctx.stack.callers s.stands;
     links = links_laid ctx.stack.callers s.links;
     locals = locals_laid (ctx.stack.callers ++ ctx.stack.bodies) s.locals;
+    handed = handed_laid ctx.stack.callers ctx.stack.bodies s.handed;
     room = s.room;
     based = s.based;
     low = s.low;

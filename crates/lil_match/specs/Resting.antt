@@ -4,7 +4,7 @@ use Rattle.std.specs.List.{list_any}
 use Rattle.lil_meaning.specs.Items.{Root, Global, Local, Object, Activation, Parked}
 use Rattle.lil_mcode.specs.Table.{Kept}
 use Rattle.lil_table.specs.Rows.{loop_place}
-use Rattle.lil_match.specs.{Homes.{Home, lives}, Waits.{Quiet, Around, Stack, frames_of, is_of, sees, Setting, Rows}, Goes.{OwnWords, Grows, Standing, beyond, Touches, Succeeds}, Known.{known_kept, each_known, each_comes, each_local, seen_within}, Kept.{first_words, stack_above, EachAbove, stands_kept, chained_kept, loops_fit, rows_renewed}}
+use Rattle.lil_match.specs.{Homes.{Home, lives}, Waits.{Quiet, Around, Stack, frames_of, is_of, sees, Setting, Rows}, Goes.{OwnWords, Grows, Standing, beyond, Touches, Succeeds}, Known.{known_kept, each_known, each_comes, each_local, seen_within}, Kept.{first_words, stack_above, EachAbove, each_handed, stands_kept, chained_kept, loops_fit, rows_renewed}}
 
 -- the same with another stack
 abbrev pub on_stack : Setting → Stack → Setting
@@ -40,9 +40,11 @@ rests_kept ctx more x y grows touch same p r rests = record {
     callers = each_known ctx.library ctx.loaded ctx.table ctx.activations more grows ctx.home x (λ m z. touch.base (Global m z) refl refl) (λ m z. touch.shape (Global m z) refl refl) touch.targets touch.fixed d.callers g.callers;
     comes = each_comes ctx.library ctx.loaded ctx.table ctx.activations more grows ctx.home x (λ m z. touch.base (Global m z) refl refl) (λ m z. touch.shape (Global m z) refl refl) touch.targets touch.fixed d.base d.bodies g.comes;
     stands = stands_kept ctx.home.owner x.owner d.base r.stack.top d.frame d.callers (λ a from below. touch.owner a (far a from (omega (arith, below, g.low)))) g.stands;
-    links = chained_kept ctx.home.shadow x.shadow ctx.activations more grows ctx.home.owner d.base r.stack.top d.frame d.callers g.stands (λ a from below. touch.shadow a (far a from (omega (arith, below, words.below, words.mark, g.low)))) g.links;
-    room = λ a from below. touch.owner a (far a (omega (arith, from, high.0, words.below)) below) ∙ g.room a from below;
+    links = chained_kept ctx.home.shadow x.shadow ctx.activations more grows ctx.home.owner d.base r.stack.top d.frame d.callers g.stands (λ a from below. touch.shadow a (far a from (omega (arith, below, words.top_is, words.mark, g.low)))) g.links;
+    room = λ a from below. touch.owner a (far a (omega (arith, from, high.0, words.top_is)) below) ∙ g.room a from below;
     locals = each_local ctx.activations more grows ctx.home x (frames_of d) base shape g.locals;
+    handed = each_handed ctx.activations more grows ctx.home x d.bodies d.base r.stack.top d.frame d.callers g.stands
+        (λ a from below. let away = far a from (omega (arith, below, words.top_is, words.mark, g.low)) in (touch.owner a away, touch.shadow a away)) base shape g.handed;
     based = g.based;
     low = g.low;
     high = g.high;
@@ -51,7 +53,8 @@ rests_kept ctx more x y grows touch same p r rests = record {
   around = rests.around;
   rows = rows_renewed p.items (on_stack ctx d) more x d.limit (d.base + 4) high.1 Quiet r.place [] rests.later rests.around
       (record {
-        shadow = λ a from below. touch.shadow a (far a (omega (arith, from)) (omega (arith, below, loops, words.below, g.low)));
+        pushed = λ i less. touch.shadow (d.frame.at + (d.frame.layout.frame + i)) (far (d.frame.at + (d.frame.layout.frame + i)) (omega (arith, high.0)) (omega (arith, less, words.top_is, g.low)));
+        shadow = λ a from below. touch.shadow a (far a (omega (arith, from)) (omega (arith, below, loops, words.top_is, g.low)));
         base = base;
         shape = shape;
         targets = touch.targets;

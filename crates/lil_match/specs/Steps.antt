@@ -3,12 +3,12 @@ use Rattle.std.proofs.Common.{◌≡◌, ℕ, zero, suc, ◌+◌, ◌<◌, Optio
 use Rattle.std.specs.Prelude.{slice_get}
 use Rattle.std.proofs.lemmas.{Option.same_Some, Bool.lt-ltb}
 use Rattle.lil_base.specs.declared.fault.{TrapKind.TrapKind, LimitKind.LimitKind}
-use Rattle.lil_resolved.specs.{Kinds.{Shape, is_there}, Resolved.{Designator, Expression, kind_of}, Sizes.{depth, place_depth}}
-use Rattle.lil_meaning.specs.{Items.{Global, Place, loaded_at, Turns, Holding, End, Item, Perform, Activation, Going, Source, Cells, Root, Local, Object, Hole, Evaluate, PlaceOf, Fill}, World.{all_closed, World}, Steps.{current, held_in, owner_of, procedure_of, procedure_name, trap_at, trapped, next}}
+use Rattle.lil_resolved.specs.{Kinds.{Shape, is_there}, Resolved.{Designator, Argument, Expression, kind_of}, Sizes.{depth, place_depth}}
+use Rattle.lil_meaning.specs.{Items.{Global, Place, Datum, loaded_at, Called, Pass, PassPlace, Passing, Turns, Holding, End, Item, Perform, Activation, Going, Source, Cells, Root, Local, Object, Hole, Evaluate, PlaceOf, Fill}, World.{all_closed, World}, Steps.{current, held_in, owner_of, procedure_of, procedure_name, trap_at, trapped, next}}
 use Rattle.lil_mcode.specs.{declared.machine.Event.{Event, TheVariants.{Trap, Went, Limit}}, Table.{Kept, State, Module, module_at, mstep, act, fetched, performed, going, push_row}}
-use Rattle.lil_table.specs.Rows.{InData, holding, loop_place, IsAt, PlaceAt, ExpressionAt}
-use Rattle.lil_match.specs.{Goes.{IsNamed, Shared, IsTrapped, IsProgram, GoesOn, Lands, IsStill, beyond, Touches, Succeeds, Short, IsFull, Grows, Goes}, Running.{running, react, Run, mrun, advanced}, Homes.{address, shape_there, Home, extends_self, lives, Mem}, Kept.{sees_laid, loops_behind}}
-use Rattle.lil_match.specs.{Waits.{stutter, Frame, own_words, Setting, frames_of, inside_with, sees, Mode, Around, RowsOf, Rows, HasPlace, HoldingWaits, Stack, frame_of, laid_out, at_home, Quiet, ValueOf, AtPlace, Reach, Jumps, AfterJumps, Ahead, Waiting}, Parts.yes}
+use Rattle.lil_table.specs.Rows.{holding, loop_place, IsAt, PlaceAt, ExpressionAt}
+use Rattle.lil_match.specs.{Goes.{IsNamed, Shared, IsTrapped, IsProgram, GoesOn, Lands, IsStill, beyond, Touches, Succeeds, Short, IsFull, Grows, Goes}, Running.{running, react, Run, mrun, advanced}, Homes.{address, shape_there, Home, extends_self, lives, Mem}, Kept.{sees_laid, sees_pushed, loops_behind}}
+use Rattle.lil_match.specs.{Waits.{stutter, Frame, own_words, Setting, frames_of, inside_with, pushing, Pending, sees, Mode, Around, RowsOf, Rows, HoldingWaits, Stack, frame_of, laid_out, at_home, Quiet, ValueOf, AtPlace, Reach, Jumps, AfterJumps, Ahead, ItemWaits}, Parts.yes}
 use Rattle.lil_base.specs.declared.fault.LimitKind.TheVariants as limit
 use Rattle.lil_asm.specs.{declared.instr.Instr.{Instr, TheVariants.Jmp}, Stretches.{stretch_short, IsInside, decoded_inside}}
 
@@ -20,7 +20,17 @@ closed ctx [] t p stack c a r = absurd r
 closed ctx (Perform (Turns x kind z step left body) ∷ k) t p stack c a r = ⊎_elim (λ b. closed ctx k _ _ _ _ _ b.then) (λ n. closed ctx k _ _ _ _ _ n.then) r.there
 closed ctx (Perform (Holding place) ∷ k) t p stack c a r = closed r.there.before k _ _ _ _ _ r.there.then ∙ sym (ap (λ (c : Setting). c.stack.frame.activation) r.there.is)
 closed ctx (Perform (End n) ∷ k) t p stack c a r = r.there.activation
+closed ctx (Fill (Pass (Called q levels) kind done left) ∷ k) t p stack c a r =
+    let w = r.there.pending in
+    closed w.before k Quiet w.end [] r.later w.outer w.then ∙ sym (ap (λ (c : Setting). c.stack.frame.activation) w.is)
+closed ctx (Fill (PassPlace (Called q levels) done left) ∷ k) t p stack c a r =
+    let w = r.there.pending in
+    closed w.before k Quiet w.end [] r.later w.outer w.then ∙ sym (ap (λ (c : Setting). c.stack.frame.activation) w.is)
 closed ctx (i ∷ k) t p stack c a r = closed ctx k _ _ _ _ _ r.there.then
+
+-- so do those of a call's arguments
+pub pending_closed : (ctx : Setting) (k : List Item) (q levels : ℕ) (done : List Datum) (next : List Shape) (left : List Argument) (p c : ℕ) (a : Around) → Pending ctx q levels done next left (RowsOf k) p c a → current k ≡ ctx.stack.frame.activation
+pending_closed ctx k q levels done next left p c a w = closed w.before k Quiet w.end [] c w.outer w.then ∙ sym (ap (λ (c : Setting). c.stack.frame.activation) w.is)
 
 -- the place that a WITH around holds, whose address stands in a word of the frame
 pub record Held (ctx : Setting) (place : Place) (shape : Shape) (word : ℕ) : Type 0 where
@@ -48,6 +58,27 @@ held_inside ctx before place shape t n word is h =
       free = h.free;
       low = h.low;
     })
+
+-- during a call's arguments
+held_pushed : (ctx before : Setting) (place : Place) (shape : Shape) (n word : ℕ) → ctx ≡ pushing before n → Held before place shape word → Held ctx place shape word
+held_pushed ctx before place shape n word is h =
+    subst (λ (c : Setting). Held c place shape word) (sym is)
+    (record {
+      seen = sees_pushed before.stack.frame (n + before.stack.frame.pushed) (before.stack.callers ++ before.stack.bodies) place.root ∙ h.seen;
+      living = h.living;
+      there = h.there;
+      address = h.address;
+      free = h.free;
+      low = h.low;
+    })
+
+held_pending : (ctx : Setting) (k : List Item) (q levels : ℕ) (done : List Datum) (next : List Shape) (left : List Argument) (p c : ℕ) (a : Around) → Pending ctx q levels done next left (RowsOf k) p c a → (w word : ℕ) (shape : Shape)
+    → slice_get ctx.stack.frame.layout.held w ≡ Some word → slice_get ctx.stack.frame.layout.scope.held w ≡ Some shape
+    → ((y : Setting) (p c : ℕ) (a : Around) → Rows y k Quiet p [] c a → slice_get y.stack.frame.layout.held w ≡ Some word → slice_get y.stack.frame.layout.scope.held w ≡ Some shape → HeldHere y (held_in k w) shape word)
+    → HeldHere ctx (held_in k w) shape word
+held_pending ctx k q levels done next left p c a r w word shape at typed rest =
+    let h = rest r.before r.end c r.outer r.then (sym (ap (λ (y : Setting). slice_get y.stack.frame.layout.held w) r.is) ∙ at) (sym (ap (λ (y : Setting). slice_get y.stack.frame.layout.scope.held w) r.is) ∙ typed) in
+    record { place = h.place; found = h.found; held = held_pushed ctx r.before h.place shape (4 + length done) word r.is h.held }
 
 no_word : (word : ℕ) → None ≡ Some word → ⊥
 no_word word e = cc
@@ -94,6 +125,10 @@ held_here ctx (Perform (Holding place) ∷ k) t p stack c a r w word shape at ty
         let h = inner v (sym (ap (λ (l : List ℕ). slice_get l (suc v)) held_is) ∙ at) (sym (ap (λ (l : List Shape). slice_get l (suc v)) scope_is) ∙ typed) in
         record { place = h.place; found = h.found; held = held_inside ctx y.before h.place shape y.shape (loop_place y.outer.taken) word y.is h.held }
 held_here ctx (Perform (End n) ∷ k) t p stack c a r w word shape at typed = absurd (none_in ctx.stack.frame.layout.held w word r.there.free at)
+held_here ctx (Fill (Pass (Called q levels) kind done left) ∷ k) t p stack c a r w word shape at typed =
+    held_pending ctx k q levels done _ left _ _ a r.there.pending w word shape at typed (λ y p c a rows at typed. held_here y k Quiet p [] c a rows w word shape at typed)
+held_here ctx (Fill (PassPlace (Called q levels) done left) ∷ k) t p stack c a r w word shape at typed =
+    held_pending ctx k q levels done _ left _ _ a r.there.pending w word shape at typed (λ y p c a rows at typed. held_here y k Quiet p [] c a rows w word shape at typed)
 held_here ctx (i ∷ k) t p stack c a r w word shape at typed = held_here ctx k _ _ _ _ _ r.there.then w word shape at typed
 
 -- an instruction of the running frame's code is one of its module's
@@ -193,6 +228,7 @@ module _ (ctx : Setting) where
 
   pub rows_ahead : (k : List Item) (p : ℕ) (stack : List ℕ) (c : ℕ) (a : Around) → Rows ctx k Quiet p stack c a → Ahead ctx k Quiet p stack c a
   rows_ahead [] p stack c a r = absurd r
+  rows_ahead (Perform (Passing (Called q levels) done left) ∷ k) p stack c a r = absurd r.there.part
   rows_ahead (i ∷ k) p stack c a r = r
 
   -- other cells, in another store
@@ -267,7 +303,7 @@ module _ (ctx : Setting) where
   -- no step of the machine: an expression is to come, and then a hole
   pub operand_exact : (s : Source) (k : List Item) (m : State) (c : ℕ) (a : Around) → Shared ctx s m → (items : List Item) (e : Expression) (o : Hole)
       → next library (record s { items = items; phase = Going }) ≡ record s { items = Evaluate e ∷ Fill o ∷ k; phase = Going } → stutter (Evaluate e ∷ Fill o ∷ k) < stutter items → (middle : ℕ)
-      → ExpressionAt l piece e m.place middle → length m.stack + depth e ≤ 16 → middle < length piece → Waiting ctx (Fill o) (Rows ctx k) (ValueOf (kind_of e)) middle m.stack c a → Goes ctx s items m c
+      → ExpressionAt l piece e m.place middle → length m.stack + depth e ≤ 16 → middle < length piece → ItemWaits ctx (Fill o) k (RowsOf k) (ValueOf (kind_of e)) middle m.stack c a → Goes ctx s items m c
   operand_exact s k m c a shared items e o becomes lighter middle here shallow within row =
       goes_none_within s items m c c
       (subst (λ (y : Source). Lands ctx y.phase y (running m s.world) c) (sym becomes)
@@ -279,14 +315,14 @@ module _ (ctx : Setting) where
 
   pub operand_goes : (s : Source) (k : List Item) (m : State) (c : ℕ) (a : Around) → Shared ctx s m → (items : List Item) (e : Expression) (o : Hole)
       → next library (record s { items = items; phase = Going }) ≡ record s { items = Evaluate e ∷ Fill o ∷ k; phase = Going } → stutter (Evaluate e ∷ Fill o ∷ k) < stutter items → (middle : ℕ)
-      → ExpressionAt l piece e m.place middle → length m.stack + depth e ≤ 16 → middle < length piece → Waiting ctx (Fill o) (Rows ctx k) (ValueOf (kind_of e)) middle m.stack c a → Goes ctx s items m (c + 32)
+      → ExpressionAt l piece e m.place middle → length m.stack + depth e ≤ 16 → middle < length piece → ItemWaits ctx (Fill o) k (RowsOf k) (ValueOf (kind_of e)) middle m.stack c a → Goes ctx s items m (c + 32)
   operand_goes s k m c a shared items e o becomes lighter middle here shallow within row =
       goes_more s items m c (c + 32) (operand_exact s k m c a shared items e o becomes lighter middle here shallow within row) (omega arith)
 
   -- no step of the machine: a place is to come, and then a hole
   pub located_goes : (s : Source) (k : List Item) (m : State) (c : ℕ) (a : Around) → Shared ctx s m → (items : List Item) (d : Designator) (o : Hole)
       → next library (record s { items = items; phase = Going }) ≡ record s { items = PlaceOf d ∷ Fill o ∷ k; phase = Going } → stutter (PlaceOf d ∷ Fill o ∷ k) < stutter items → (found : ℕ)
-      → PlaceAt l piece d m.place found → length m.stack + place_depth d ≤ 16 → Waiting ctx (Fill o) (Rows ctx k) (AtPlace d) found m.stack c a → Goes ctx s items m (c + 32)
+      → PlaceAt l piece d m.place found → length m.stack + place_depth d ≤ 16 → ItemWaits ctx (Fill o) k (RowsOf k) (AtPlace d) found m.stack c a → Goes ctx s items m (c + 32)
   located_goes s k m c a shared items d o becomes lighter found here shallow row =
       goes_none_within s items m (c + 32) c
       (subst (λ (y : Source). Lands ctx y.phase y (running m s.world) c) (sym becomes)

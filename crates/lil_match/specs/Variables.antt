@@ -1,12 +1,15 @@
 -- Where the variables are that items name: those of the module at hand, and those of the procedures at hand and around it.
+use Rattle.lil_resolved.specs.Kinds.{parameters_of, parameters_at}
+use Rattle.lil_resolved.specs.Plain.{parameter_variable}
+use Rattle.lil_match.specs.Waits.{parameters_in}
 use Rattle.std.proofs.Common.{◌≡◌, ℕ, zero, suc, ◌+◌, ◌<◌, ◌≤◌, inl, inr, Bool, true, ◌||◌, Option, Some, None, List, [], ◌∷◌, ◌++◌, length, map, drop, refl, sym, ap, ◌∙◌, subst, arith, eq-eqb}
-use Rattle.std.specs.{Prelude.{slice_get, option_and_then, option_map}, List.list_any}
-use Rattle.std.proofs.lemmas.Option.{none-some, slice_get_within, slice_get-map}
-use Rattle.lil_resolved.specs.{Kinds.{Shape, Outline, is_there, words, procedure_by, locals_of, locals_at, offsets_from}, Resolved.{Named, OfModule, OfLevel, Resolved, variable_at, outline_of}}
-use Rattle.lil_meaning.specs.{Items.{Global, Local, Slot, Here, Place, Activation, Source, loaded_at}, Steps.{current, owner_of, procedures_of, own_slot, slots_of, slot_place, local_place, level_out, variable_place}}
+use Rattle.std.specs.{Prelude.{slice_get, option_and_then}, List.list_any}
+use Rattle.std.proofs.lemmas.Option.{none-some, slice_get_within}
+use Rattle.lil_resolved.specs.{Kinds.{Shape, Address, Outline, is_there, procedure_by, locals_of, locals_at, offsets_from}, Resolved.{Named, OfModule, OfLevel, Resolved, variable_at, outline_of}}
+use Rattle.lil_meaning.specs.{Items.{Root, Global, Local, Slot, Here, At, Place, Activation, Source, loaded_at}, Steps.{current, owner_of, procedures_of, slots_of, slot_place, local_place, level_out, variable_place}}
 use Rattle.lil_mcode.specs.Table.{Module, State}
 use Rattle.lil_table.specs.Rows.{access_at, offset_at, framed}
-use Rattle.lil_match.specs.{Homes.Home, Waits.{Frame, Stack, frames_of, locals_in, is_of, Setting, HasPlace}, Known.{or_later}, Goes.{Among, IsKnown, EachKnown, HasLocals, EachLocal, Shared}, Climbs.{Climbs, climbs, first_own}, Kept.first_words}
+use Rattle.lil_match.specs.{Homes.{Owner, Own, Home, address, shape_there}, Waits.{Frame, frames_of, locals_in, own_words, is_of, sees, Setting, HasPlace}, Known.{or_later, sees_more}, Goes.{Stands, Among, IsKnown, EachKnown, HasLocals, EachLocal, HasHanded, EachHanded, Shared}, Climbs.{Climbs, climbs, first_own}, Kept.{first_words, offset_low}}
 
 -- ---- frames
 known_among : (library : List Resolved) (loaded : List ℕ) (table : List Module) (acts : List Activation) (h : Home) (fs : List Frame) (g : Frame) → EachKnown library loaded table acts h fs → Among g fs → IsKnown library loaded table acts h g
@@ -28,6 +31,26 @@ seen_among [] bs g m = absurd m
 seen_among (f ∷ fs) bs g (inl same) = first_of (is_of g.activation f) (list_any (is_of g.activation) (fs ++ bs)) (eq-eqb f.activation g.activation (ap (λ (y : Frame). y.activation) (sym same)))
 seen_among (f ∷ fs) bs g (inr m) = or_later (is_of g.activation f) (list_any (is_of g.activation) (fs ++ bs)) (seen_among fs bs g m)
 
+-- what was handed in to one of the frames
+record HandedAmong (acts : List Activation) (h : Home) (fs bs : List Frame) (g : Frame) : Type 0 where
+  under : List Frame
+  handed : HasHanded acts h g under
+  more : (r : Root) → sees under r ≡ true → sees (fs ++ bs) r ≡ true
+
+handed_among : (acts : List Activation) (h : Home) (fs bs : List Frame) (g : Frame) → EachHanded acts h fs bs → Among g fs → HandedAmong acts h fs bs g
+handed_among acts h [] bs g e m = absurd m
+handed_among acts h (f ∷ fs) bs g e (inl same) = record { under = fs ++ bs; handed = subst (λ (y : Frame). HasHanded acts h y (fs ++ bs)) (sym same) e.0; more = λ r s. sees_more f (fs ++ bs) r s }
+handed_among acts h (f ∷ fs) bs g e (inr m) =
+    let one = handed_among acts h fs bs g e.1 m in
+    record { under = one.under; handed = one.handed; more = λ r s. sees_more f (fs ++ bs) r (one.more r s) }
+
+-- the variables of a frame lie below the topmost word
+frame_low : (owner : ℕ → Owner) (base top : ℕ) (f : Frame) (gs : List Frame) → Stands owner base top f gs → (g : Frame) → Among g (f ∷ gs) → g.at + (4 + own_words g) ≤ top
+frame_low owner base top f [] s g (inl same) = subst (λ (y : Frame). y.at + (4 + own_words y) ≤ top) (sym same) (omega (arith, s.0.mark, s.0.top_is))
+frame_low owner base top f [] s g (inr m) = absurd m
+frame_low owner base top f (y ∷ gs) s g (inl same) = subst (λ (y : Frame). y.at + (4 + own_words y) ≤ top) (sym same) (omega (arith, s.0.mark, s.0.top_is))
+frame_low owner base top f (y ∷ gs) s g (inr m) = omega (arith, frame_low owner base f.at y gs s.1 g m, s.0.top_is)
+
 -- ---- the variables of a procedure around are those of its frame
 dropped : (xs : List ℕ) (n : ℕ) → slice_get (drop n xs) 0 ≡ slice_get xs n
 dropped [] zero = refl
@@ -35,10 +58,11 @@ dropped [] (suc n) = refl
 dropped (x ∷ xs) zero = refl
 dropped (x ∷ xs) (suc n) = dropped xs n
 
-locals_out : (f to : Frame) (n : ℕ) → to.layout.scope.procedures ≡ f.layout.scope.procedures → to.layout.scope.chain ≡ drop n f.layout.scope.chain → locals_in to ≡ locals_at f.layout.scope n
-locals_out f to n procedures chain =
-    ap (λ (ps : List Outline). locals_of (option_and_then (procedure_by ps) (slice_get to.layout.scope.chain 0))) procedures
-    ∙ ap (λ (o : Option ℕ). locals_of (option_and_then (procedure_by f.layout.scope.procedures) o)) (ap (λ (xs : List ℕ). slice_get xs 0) chain ∙ dropped f.layout.scope.chain n)
+same_out : (f to : Frame) (n : ℕ) → to.layout.scope.procedures ≡ f.layout.scope.procedures → to.layout.scope.chain ≡ drop n f.layout.scope.chain
+    → option_and_then (procedure_by to.layout.scope.procedures) (slice_get to.layout.scope.chain 0) ≡ option_and_then (procedure_by f.layout.scope.procedures) (slice_get f.layout.scope.chain n)
+same_out f to n procedures chain =
+    ap (λ (ps : List Outline). option_and_then (procedure_by ps) (slice_get to.layout.scope.chain 0)) procedures
+    ∙ ap (λ (o : Option ℕ). option_and_then (procedure_by f.layout.scope.procedures) o) (ap (λ (xs : List ℕ). slice_get xs 0) chain ∙ dropped f.layout.scope.chain n)
 
 -- one that is there is of a procedure at hand
 level_low : (ps : List Outline) (chain : List ℕ) (n x : ℕ) (t : Shape) → slice_get (locals_of (option_and_then (procedure_by ps) (slice_get chain n))) x ≡ Some t → n < length chain
@@ -47,9 +71,6 @@ level_low ps chain n x t typed = by (slice_get chain n) refl typed
     by : (o : Option ℕ) → slice_get chain n ≡ o → slice_get (locals_of (option_and_then (procedure_by ps) o)) x ≡ Some t → n < length chain
     by None e typed = absurd (none-some t typed)
     by (Some p) e typed = slice_get_within chain n p e
-
-slot_here : (ts : List Shape) (x : ℕ) (t : Shape) → slice_get ts x ≡ Some t → slice_get (map own_slot ts) x ≡ Some Here
-slot_here ts x t e = slice_get-map own_slot ts x ∙ ap (option_map own_slot) e
 
 framed_low : (n : ℕ) → n ≤ 65535 → framed n ≡ n
 framed_low n h = omega (arith, h)
@@ -61,13 +82,31 @@ module _ (ctx : Setting) where
   pub framed_here : (s : Source) (m : State) → Shared ctx s m → (n : ℕ) → n ≤ ctx.stack.frame.layout.frame → framed n ≡ n
   framed_here s m shared n less =
       let words = first_words h.owner st.base m.top st.frame st.callers shared.standing.stands in
-      framed_low n (omega (arith, less, words.below, shared.standing.low, shared.standing.high))
+      framed_low n (omega (arith, less, words.top_is, shared.standing.low, shared.standing.high))
 
   -- the frame so many levels out
   pub out_of : (s : Source) (m : State) → Shared ctx s m → (i : ℕ) → i < length ctx.stack.frame.layout.scope.chain → Climbs ctx.activations m.store ctx.stack.frame ctx.stack.callers i
   out_of s m shared i less =
       climbs h.shadow ctx.activations m.store st.frame st.callers shared.standing.links
       (λ g among. shared.mem.kept g.at (first_own h.owner st.base m.top st.frame st.callers shared.standing.stands g among)) i less
+
+  -- its procedure is that of the layout
+  outline_out : (s : Source) (m : State) → Shared ctx s m → (n : ℕ) (up : Climbs ctx.activations m.store ctx.stack.frame ctx.stack.callers n)
+      → option_and_then (procedure_by up.to.layout.scope.procedures) (slice_get up.to.layout.scope.chain 0) ≡ option_and_then (procedure_by ctx.stack.frame.layout.scope.procedures) (slice_get ctx.stack.frame.layout.scope.chain n)
+  outline_out s m shared n up =
+      let f = ctx.stack.frame in
+      let known = known_among ctx.library ctx.loaded ctx.table ctx.activations h (f ∷ st.callers) up.to (shared.standing.known, shared.standing.callers) up.among in
+      same_out f up.to n (known.procedures ∙ ap (λ (i : ℕ). map outline_of (procedures_of (loaded_at ctx.library ctx.loaded i))) up.owner ∙ sym shared.standing.known.procedures) up.chain
+
+  -- what a slot of its activation means
+  found_out : (s : Source) (m : State) → Shared ctx s m → current s.items ≡ ctx.stack.frame.activation → (n x : ℕ) (up : Climbs ctx.activations m.store ctx.stack.frame ctx.stack.callers n) (its : Activation) → slice_get ctx.activations up.to.activation ≡ Some its
+      → (slot : Slot) → slice_get its.slots x ≡ Some slot → variable_place s (OfLevel n x) ≡ slot_place up.to.activation x (Some slot)
+  found_out s m shared close n x up its runs slot is =
+      ap (λ (a : ℕ). local_place s.activations (level_out s.activations a n) x) close
+      ∙ ap (λ (acts : List Activation). local_place acts (level_out acts ctx.stack.frame.activation n) x) shared.activations_are
+      ∙ ap (λ (a : Option ℕ). local_place ctx.activations a x) up.level
+      ∙ ap (λ (o : Option Activation). slot_place up.to.activation x (slice_get (slots_of o) x)) runs
+      ∙ ap (slot_place up.to.activation x) is
 
   -- a variable has a place, which code has where the layout says
   pub record VariableHere (s : Source) (v : Named) (offset : ℕ) (t : Shape) (stack : List ℕ) : Type 0 where
@@ -80,26 +119,19 @@ module _ (ctx : Setting) where
     of_level n x at typed =
         let f = ctx.stack.frame in
         let up = out_of s m shared n (level_low f.layout.scope.procedures f.layout.scope.chain n x t typed) in
-        let known = known_among ctx.library ctx.loaded ctx.table ctx.activations h (f ∷ st.callers) up.to (shared.standing.known, shared.standing.callers) up.among in
-        let same : locals_in up.to ≡ locals_at f.layout.scope n =
-        locals_out f up.to n (known.procedures ∙ ap (λ (i : ℕ). map outline_of (procedures_of (loaded_at ctx.library ctx.loaded i))) up.owner ∙ sym shared.standing.known.procedures) up.chain in
+        let same : locals_in up.to ≡ locals_at f.layout.scope n = ap locals_of (outline_out s m shared n up) in
         let its = local_among ctx.activations h (f ∷ st.callers) st.bodies up.to shared.standing.locals up.among in
-        let here = ap (λ (ts : List Shape). slice_get ts x) same ∙ typed in
-        let v = its.variables x offset t (ap (λ (ts : List Shape). slice_get (offsets_from 4 ts) x) same ∙ at) here there in
+        let v = its.variables x offset t (ap (λ (ts : List Shape). slice_get (offsets_from 4 ts) x) same ∙ at) (ap (λ (ts : List Shape). slice_get ts x) same ∙ typed) there in
         let low = shared.mem.inside (Local up.to.activation x) in
-        let exact : framed offset ≡ offset = framed_low offset (omega (arith, low, v.1)) in
+        let exact : framed offset ≡ offset = framed_low offset (omega (arith, low, v.2)) in
         record {
           place = record { root = Local up.to.activation x; path = [] };
-          found = ap (λ (a : ℕ). local_place s.activations (level_out s.activations a n) x) close
-              ∙ ap (λ (acts : List Activation). local_place acts (level_out acts f.activation n) x) shared.activations_are
-              ∙ ap (λ (a : Option ℕ). local_place ctx.activations a x) up.level
-              ∙ ap (λ (o : Option Activation). slot_place up.to.activation x (slice_get (slots_of o) x)) its.runs
-              ∙ ap (slot_place up.to.activation x) (ap (λ (ss : List Slot). slice_get ss x) its.slots ∙ slot_here (locals_in up.to) x t here);
+          found = found_out s m shared close n x up its.its its.runs Here v.0;
           has = record {
             seen = seen_among (f ∷ st.callers) st.bodies up.to up.among;
-            living = v.0;
+            living = v.1;
             there = there;
-            at = (up.to.at, up.shown, omega (arith, v.1, exact), refl);
+            at = (up.to.at, up.shown, omega (arith, v.2, exact), refl);
           };
         }
 
@@ -117,3 +149,39 @@ module _ (ctx : Setting) where
           found = ap (λ (n : ℕ). Some (record { root = Global n x; path = [] })) here;
           has = record { seen = refl; living = v.0; there = there; at = (omega (arith, v.1), refl) };
         }
+
+  -- what was handed in for a VAR parameter is a place, and a word of its procedure's frame has the address
+  pub record HandedHere (s : Source) (n x offset : ℕ) (t : Shape) : Type 0 where
+    pub place : Place
+    pub found : variable_place s (OfLevel n x) ≡ Some place
+    pub first : ℕ
+    pub shown : slice_get ctx.stack.frame.display n ≡ Some first
+    pub own : h.owner (first + offset) ≡ Own
+    pub word : h.shadow (first + offset) ≡ address h place
+    pub seen : sees (frames_of ctx.stack) place.root ≡ true
+    pub living : shape_there h place ≡ t
+    pub low : first + offset ≤ 65535
+
+  pub handed_here : (s : Source) (m : State) → Shared ctx s m → current s.items ≡ ctx.stack.frame.activation → (n x offset : ℕ) (t : Shape) → offset_at ctx.stack.frame.layout (OfLevel n x) ≡ Some offset
+      → slice_get (parameters_at ctx.stack.frame.layout.scope n) x ≡ Some (Address t) → is_there t ≡ true → HandedHere s n x offset t
+  handed_here s m shared close n x offset t at typed there =
+      let f = ctx.stack.frame in
+      let up = out_of s m shared n (level_low f.layout.scope.procedures f.layout.scope.chain n x (Address t) (parameter_variable f.layout.scope n x (Address t) typed)) in
+      let outline = outline_out s m shared n up in
+      let same : locals_in up.to ≡ locals_at f.layout.scope n = ap locals_of outline in
+      let one = handed_among ctx.activations h (f ∷ st.callers) st.bodies up.to shared.standing.handed up.among in
+      let here = ap (λ (ts : List Shape). slice_get (offsets_from 4 ts) x) same ∙ at in
+      let typed_here : slice_get (parameters_in up.to) x ≡ Some (Address t) = ap (λ (o : Option Outline). slice_get (parameters_of o) x) outline ∙ typed in
+      let v = one.handed x offset t here typed_here there in
+      let low = offset_low 4 (locals_in up.to) x offset (Address t) here (parameter_variable up.to.layout.scope 0 x (Address t) typed_here) in
+      record {
+        place = v.place;
+        found = found_out s m shared close n x up v.its v.runs (At v.place) v.slot;
+        first = up.to.at;
+        shown = up.shown;
+        own = v.own;
+        word = v.word;
+        seen = one.more v.place.root v.seen;
+        living = v.living;
+        low = omega (arith, low.1, frame_low h.owner st.base m.top f st.callers shared.standing.stands up.to up.among, shared.standing.low, shared.standing.high);
+      }

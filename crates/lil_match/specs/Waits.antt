@@ -4,30 +4,41 @@ use Rattle.std.proofs.Common.{◌≡◌, ℕ, zero, suc, ◌+◌, ◌-◌, ◌%�
 use Rattle.std.specs.Prelude.{ℤ, ◌+ℤ◌, Option, ◌==◌, slice_get}
 use Rattle.std.specs.List.{list_any}
 use Rattle.lil_base.specs.{Words.{between, word_of}, declared.operator.{TwoOp.TwoOp}, Requests.request_number}
-use Rattle.lil_resolved.specs.Kinds.{Workspaces, Kind, OfTruth, OfCharacter, OfSet, OfPointer, base_of, takes_value, least, greatest, numbers, Scalar, within, scalar_word, Shape, Word, Row, is_there, part_at, element_of, all_words, locals_at}
-use Rattle.lil_resolved.specs.{Resolved.{Named, Designator, Variable, Held, Field, Element, Follow, Expression, Constant, Taken, One, Two, Short, Apply, With, WithSpan, Argument, ByValue, OfArray, OfText, Statement, Assign, Copy, Text, Change, Member, New, Allocate, Request, Inside, If, Case, While, Repeat, Loop, Exit, Halt, Return, Call, For, Statements, Empty, Then, Resolved, kind_of, is_relation, result_kind, function_kind, shape_of}, Sizes.{place_depth, depth}}
-use Rattle.lil_resolved.specs.Sound.{Parameter, Single, Characters, request_parameters, parameter_of}
-use Rattle.lil_meaning.specs.Items.{Root, Local, Place, Datum, Scalars, Places, Wholes, Opens, Texts, Hole, Get, IndexBy, IndexAt, Pointed, SetTo, StoreAt, CopyTo, CopyFrom, TextTo, NewAt, AllocateBy, AllocateAt, ChangeBy, ChangeAt, OneOf, LeftOf, RightOf, ShortOf, ApplyTo, WithMember, MemberOf, WithMembers, MembersFrom, MembersTo, MemberBy, MemberAt, Pass, PassArray, Choose, Turn, Again, Pick, Hold, StartOf, LimitOf, Task, Do, Passing, Until, Looping, Turns, Holding, End, Item, Value, Evaluate, PlaceOf, Fill, Perform, Activation, Parked, Part as PartOf}
-use Rattle.lil_meaning.specs.Steps.{turns}
-use Rattle.lil_asm.specs.{declared.instr.Instr.TheVariants.{Liw, Ent, Rtn, Jmp, Svc}, Requests.request_words}
+use Rattle.lil_resolved.specs.Kinds.{Workspaces, Kind, OfTruth, OfCharacter, OfSet, OfPointer, base_of, is_plain, takes_value, stores_value, least, greatest, numbers, Scalar, within, scalar_word, Shape, Word, Row, Address, Opened, is_there, part_at, element_of, all_words, locals_at, Scope, MayCall, parameters_of, parameters_at, procedure_by}
+use Rattle.lil_resolved.specs.{Resolved.{Named, Designator, Variable, Handed, Held, Field, Element, Follow, Expression, Constant, Taken, One, Two, Short, Apply, With, WithSpan, Argument, ByValue, OfPlace, OfArray, OfText, Statement, Assign, Copy, Text, Change, Member, New, Allocate, Request, Inside, If, Case, While, Repeat, Loop, Exit, Halt, Return, Call, For, Statements, Empty, Then, Resolved, kind_of, is_relation, result_kind, function_kind, shape_of}, Sizes.{place_depth, depth}}
+use Rattle.lil_resolved.specs.Sound.{request_parameters, parameter_of}
+use Rattle.lil_meaning.specs.Items.{Root, Local, Place, Datum, Scalars, Places, Wholes, Opens, Texts, Hole, Get, IndexBy, IndexAt, Pointed, SetTo, StoreAt, CopyTo, CopyFrom, TextTo, NewAt, AllocateBy, AllocateAt, ChangeBy, ChangeAt, OneOf, LeftOf, RightOf, ShortOf, ApplyTo, WithMember, MemberOf, WithMembers, MembersFrom, MembersTo, MemberBy, MemberAt, Requested, Called, Pass, PassPlace, PassArray, Choose, Turn, Again, Pick, Hold, StartOf, LimitOf, Task, Do, Passing, Until, Looping, Turns, Holding, End, Item, Value, Evaluate, PlaceOf, Fill, Perform, Activation, Parked, loaded_at, Part as PartOf}
+use Rattle.lil_meaning.specs.{Steps.{turns}, Need.{frame_of as words_of}}
+use Rattle.lil_asm.specs.{declared.instr.Instr.TheVariants.{Liw, Psh, Cll, Ent, Rtn, Jmp, Svc}, Requests.request_words}
 use Rattle.lil_mcode.specs.Table.{Module, Kept, body_entry}
 use Rattle.lil_base.specs.declared.request.Request as request
-use Rattle.lil_table.specs.Rows.{Layout, holding, framed, exactly, HasText, text_words, arguments_words, IsAt, InstrsAt, test_code, Access, InData, InFrame, OnTop, access_of, address_code, readied, PlaceAt, ExpressionAt, ArgumentsAt, StatementAt, BodyAt, TurnsRow, RoundRow, loop_place, Behind as Past}
-use Rattle.lil_match.specs.Homes.{word_for, Refers, Home, address, shape_there}
+use Rattle.lil_table.specs.Rows.{Layout, holding, framed, exactly, HasText, text_words, arguments_words, IsAt, InstrsAt, test_code, Access, InData, InFrame, OnTop, access_of, address_code, readied, PlaceAt, ExpressionAt, ArgumentsAt, GivenAt, StatementAt, BodyAt, TurnsRow, RoundRow, loop_place, Behind as Past}
+use Rattle.lil_match.specs.Homes.{word_for, Refers, IsWord, Home, address, shape_there}
 
 -- whether a parameter and a datum are open arrays
-abbrev pub is_open : Parameter → Bool
-is_open (Single k) = false
-is_open Characters = true
+abbrev pub is_open : Shape → Bool
+is_open (Opened t) = true
+is_open _ = false
 
 abbrev pub is_array : Datum → Bool
 is_array (Opens p high) = true
 is_array (Texts cs) = true
 is_array _ = false
 
+-- what a request may take: a value that is no reference, or an open array
+abbrev pub IsServed : Shape → Type 0
+IsServed (Word k) = is_plain k ≡ true
+IsServed (Opened t) = Unit {0}
+IsServed _ = ⊥
+
+abbrev pub AreServed : List Shape → Type 0
+AreServed [] = Unit {0}
+AreServed (t ∷ ts) = IsServed t × AreServed ts
+
 -- the arguments of a request, those that are done, by whether they are arrays, and those that are left, are arrays where its parameters are
-pub record TakesAll (r : request.Request) (done : List Bool) (left : List Argument) : Type 0 where
-  pub same : map is_open (request_parameters r) ≡ done ++ map is_open (map parameter_of left)
+pub record TakesAll (ts : Scope) (r : request.Request) (done : List Bool) (left : List Argument) : Type 0 where
+  pub same : map is_open (request_parameters r) ≡ done ++ map is_open (map (parameter_of ts) left)
+  pub served : AreServed (map (parameter_of ts) left)
 
 -- What comes from the items before: nothing, a value of a kind, or the place of a designator, as the code has it.
 pub data Mode : Type 0 where
@@ -95,8 +106,8 @@ pub record Waits (w : Part) (rest : Reach) (c : ℕ) (a : Around) : Type 0 where
   pub then : rest (w.onto part).mode (w.onto part).place (w.onto part).stack c a
 
 -- A procedure or a body that runs or is to run: its activation, its module's number, its own number in there, its module's entry in the
--- table, where its code begins and what is behind it, the code by itself, its layout, the first word of its frame, those of the frames from it on
--- outwards by its static links, and the place where its return goes on.
+-- table, where its code begins and what is behind it, the code by itself, its layout, the first word of its frame, how many words its pending
+-- calls have put above that, the first words of the frames from it on outwards by its static links, and the place where its return goes on.
 pub record Frame : Type 0 where
   pub activation : ℕ
   pub number : ℕ
@@ -107,15 +118,23 @@ pub record Frame : Type 0 where
   pub piece : List ℕ
   pub layout : Layout
   pub at : ℕ
+  pub pushed : ℕ
   pub display : List ℕ
   pub back : ℕ
 
--- the shapes of its variables, and how many words they take
+-- the shapes of its variables and those of its parameters, and how many words the variables take
 abbrev pub locals_in : Frame → List Shape
 locals_in f = locals_at f.layout.scope 0
 
+abbrev pub parameters_in : Frame → List Shape
+parameters_in f = parameters_at f.layout.scope 0
+
 abbrev pub own_words : Frame → ℕ
 own_words f = all_words (locals_in f)
+
+-- the first word above a frame and above what pending calls have put there
+abbrev pub top_of : Frame → ℕ
+top_of f = f.at + (f.layout.frame + f.pushed)
 
 -- what is around its first and its last item
 abbrev pub outside : Frame → Around
@@ -171,6 +190,10 @@ renewed ctx more x n = record ctx { activations = more; home = x; stack = record
 abbrev pub inside_with : Setting → Shape → ℕ → Setting
 inside_with ctx t n = record ctx { stack = record (ctx.stack) { frame = record (ctx.stack.frame) { layout = holding ctx.stack.frame.layout t n } } }
 
+-- a pending call has put so many words more above the running frame
+abbrev pub pushing : Setting → ℕ → Setting
+pushing ctx n = record ctx { stack = record (ctx.stack) { frame = record (ctx.stack.frame) { pushed = n + ctx.stack.frame.pushed } } }
+
 -- another frame runs, with these under it and these bodies behind
 abbrev pub with_frames : Setting → Frame → List Frame → List Frame → Setting
 with_frames ctx f gs bs = record ctx { stack = record (ctx.stack) { frame = f; callers = gs; bodies = bs } }
@@ -191,6 +214,11 @@ pub record AfterJumps (code : List ℕ) (row : Reach) (t : Mode) (p : ℕ) (stac
   pub way : Jumps code jumps p start
   pub there : row t start stack later a
   pub count : c ≡ jumps + later
+
+-- the static link of a procedure that is declared so many levels out is the first word of the frame around it
+abbrev pub IsLink : (display : List ℕ) → ℕ → ℕ → Type 0
+IsLink display zero w = Unit {0}
+IsLink display (suc i) w = slice_get display i ≡ Some w
 
 -- what items need of the code of a frame alone
 module _ (frame : Frame) where
@@ -268,7 +296,7 @@ module _ (frame : Frame) where
   pub record LeftPart (r : request.Request) (done : List Bool) (left : List Argument) (count p : ℕ) : Type 0 where
     pub middle : ℕ
     pub given : ArgumentsAt l piece count left p middle
-    pub forms : TakesAll r done left
+    pub forms : TakesAll l.scope r done left
     pub serve : ServePart r (count + arguments_words left) middle
 
   -- behind an expression of a statement
@@ -524,7 +552,7 @@ module _ (ctx : Setting) where
   needs Quiet (Evaluate e) p stack a = part (EvaluatePart active e p stack) (λ r. on (ValueOf (kind_of e)) r.end stack)
   needs Quiet (PlaceOf d) p stack a = part (PlacePart active d p stack) (λ r. on (AtPlace d) r.end stack)
   needs Quiet (Perform (Do s)) p stack a = part (DoPart active s p stack a) (λ r. on Quiet r.end [])
-  needs Quiet (Perform (Passing q done left)) p stack a = part (PassingPart q done left p stack) (λ r. on Quiet r.rest.serve.end [])
+  needs Quiet (Perform (Passing (Requested q) done left)) p stack a = part (PassingPart q done left p stack) (λ r. on Quiet r.rest.serve.end [])
   needs Quiet (Perform (Until body e)) p stack a = part (PlacedPart active (Repeat body e) a (λ p q r. r.end) p stack) (λ r. on Quiet r.amid.end [])
   needs (AtPlace d) (Fill Get) p stack a = part (GetPart active d p stack) (λ r. on (ValueOf (base_of r.kind)) r.did.end stack)
   needs (AtPlace d) (Fill (PartOf i)) p stack a = part (is_there (part_at (shape_of l.scope d) (i ∷ [])) ≡ true) (λ r. on (AtPlace (Field d i)) p stack)
@@ -536,7 +564,7 @@ module _ (ctx : Setting) where
   needs (AtPlace d) (Fill (CopyTo from)) p stack a = part (PlacedPart active (Copy d from) a (λ p q r. r.found) p stack) (λ r. on Quiet r.amid.end [])
   needs (AtPlace d) (Fill (CopyFrom to)) p stack a = part (CopyFromPart d to p stack a) (λ r. on Quiet r.amid.end [])
   needs (AtPlace d) (Fill (TextTo cs)) p stack a = part (PlacedPart active (Text d cs) a (λ p q r. r.found) p stack) (λ r. on Quiet r.amid.end [])
-  needs (AtPlace d) (Fill (PassArray q high done left)) p stack a = part (PassArrayPart d q high done left p stack) (λ r. on Quiet r.rest.serve.end [])
+  needs (AtPlace d) (Fill (PassArray (Requested q) high done left)) p stack a = part (PassArrayPart d q high done left p stack) (λ r. on Quiet r.rest.serve.end [])
   needs (AtPlace d) (Fill (Hold body)) p stack a = part (PlacedPart active (Inside d body) a (λ p q r. r.found) p stack) (λ r. on Quiet r.amid.end [])
   needs (AtPlace d) (Fill (ChangeBy down k e)) p stack a = part (PlacedPart active (Change down d k e) a (λ p q r. r.target.found) p stack) (λ r. on Quiet r.amid.end [])
   needs (AtPlace d) (Fill (MemberBy out k e)) p stack a = part (PlacedPart active (Member out d k e) a (λ p q r. r.found) p stack) (λ r. on Quiet r.amid.end [])
@@ -555,7 +583,7 @@ module _ (ctx : Setting) where
   needs (ValueOf j) (Fill (RightOf o k u)) p stack a = part (RightPart j o k u p stack) (λ r. on (ValueOf (result_kind (is_relation o) k)) r.row.did.end r.below)
   needs (ValueOf j) (Fill (ShortOf d f)) p stack a = part (OperandPart active (λ e. Short d e f) (λ e p q r. r.middle) j p stack) (λ r. on (ValueOf OfTruth) r.did.end stack)
   needs (ValueOf j) (Fill (ApplyTo f)) p stack a = part (OperandPart active (Apply f) (λ e p q r. r.middle) j p stack) (λ r. on (ValueOf (function_kind f)) r.did.end stack)
-  needs (ValueOf j) (Fill (Pass q k done left)) p stack a = part (PassPart j q k done left p stack) (λ r. on Quiet r.rest.serve.end [])
+  needs (ValueOf j) (Fill (Pass (Requested q) k done left)) p stack a = part (PassPart j q k done left p stack) (λ r. on Quiet r.rest.serve.end [])
   needs (ValueOf j) (Fill (Choose first second)) p stack a = part (ValuePart active a (λ e. If e first second) (λ e p q r. r.middle) j p stack) (λ r. on Quiet r.did.end [])
   needs (ValueOf j) (Fill (Turn e body)) p stack a = part (TestPart active (While e body) a (λ p q r. r.middle) j p stack) (λ r. on Quiet r.did.end [])
   needs (ValueOf j) (Fill (Again body e)) p stack a = part (TestPart active (Repeat body e) a (λ p q r. r.middle) j p stack) (λ r. on Quiet r.did.end [])
@@ -580,6 +608,7 @@ module _ (ctx : Setting) where
     pub low : b.at ≤ active.at
     pub plain : own_words active ≡ 0
     pub bare : own_words b ≡ 0
+    pub idle : b.pushed ≡ 0
     pub start : ℕ
     pub enter : IsAt b.piece (body_entry b.own) (Ent (framed b.layout.frame)) start
     pub then : rest Quiet start [] c (outside b)
@@ -590,6 +619,8 @@ module _ (ctx : Setting) where
     pub called : active.procedure ≡ suc before
     pub outer : Around
     pub under : g.at + loop_place outer.taken ≤ active.at
+    pub mark : 4 ≤ g.layout.frame
+    pub pushed : top_of g ≤ active.at
     pub frame : h.shadow (active.at + 1) ≡ g.at
     pub place : h.shadow (active.at + 2) ≡ active.back
     pub module' : h.shadow (active.at + 3) ≡ g.number
@@ -617,6 +648,74 @@ module _ (ctx : Setting) where
     pub word : h.shadow (active.at + loop_place outer.taken) ≡ address h place
     pub then : rest before Quiet p [] c outer
 
+  -- ---- calls whose arguments are at hand
+  -- what was given for a parameter, as a word of the frame to come
+  pub record GivenPlace (t : Shape) (place : Place) (w : ℕ) : Type 0 where
+    pub seen : sees (frames_of ctx.stack) place.root ≡ true
+    pub living : shape_there h place ≡ t
+    pub there : is_there t ≡ true
+    pub word : w ≡ address h place
+
+  abbrev pub GivenWord : Shape → Datum → ℕ → Type 0
+  GivenWord (Word k) (Scalars v) w = IsWord h k v w
+  GivenWord (Address t) (Places place) w = GivenPlace t place w
+  GivenWord t d w = ⊥
+
+  -- the same of several, from a word of the store on
+  abbrev pub AllGiven : List Shape → List Datum → ℕ → Type 0
+  AllGiven [] [] at = Unit {0}
+  AllGiven (t ∷ ts) (d ∷ ds) at = GivenWord t d (h.shadow at) × AllGiven ts ds (suc at)
+  AllGiven ts ds at = ⊥
+
+  -- Procedure x, declared n levels out, is called: above the frame stand its mark and what is done of its arguments. Those that are left stand
+  -- behind what is at hand, in no LOOP, and then comes the call.
+  pub record Pending (x n : ℕ) (done : List Datum) (next : List Shape) (left : List Argument) (rest : Setting → Reach) (p : ℕ) (c : ℕ) (a : Around) : Type 0 where
+    pub before : Setting
+    pub is : ctx ≡ pushing before (4 + length done)
+    pub outer : Around
+    pub around : a ≡ record { exit = None; taken = outer.taken }
+    pub may : MayCall l.scope x n
+    pub shapes : List Shape
+    pub takes : parameters_of (procedure_by l.scope.procedures x) ≡ shapes ++ (next ++ map (parameter_of l.scope) left)
+    pub room : 4 + (length done + (length next + length left)) ≤ words_of (loaded_at ctx.library ctx.loaded active.number) x + 17
+    pub link : IsLink active.display n (h.shadow (top_of before.stack.frame))
+    pub given : AllGiven shapes done (top_of before.stack.frame + 4)
+    pub middle : ℕ
+    pub arguments : GivenAt l piece left p middle
+    pub end : ℕ
+    pub call : IsAt piece middle (Cll x (framed (length done + (length next + length left)))) end
+    pub within : end < length piece
+    pub then : rest before Quiet end [] c outer
+
+  -- the next argument is at hand, or the call
+  pub record PendingWaits (x n : ℕ) (done : List Datum) (left : List Argument) (rest : Setting → Reach) (t : Mode) (p : ℕ) (stack : List ℕ) (c : ℕ) (a : Around) : Type 0 where
+    pub quiet : t ≡ Quiet
+    pub empty : stack ≡ []
+    pub pending : Pending x n done [] left rest p c a
+
+  -- the value of the next argument is to come, which is tested and goes to the frame to come
+  pub record ValueWaits (x n : ℕ) (k : Kind) (done : List Datum) (left : List Argument) (rest : Setting → Reach) (t : Mode) (p : ℕ) (stack : List ℕ) (c : ℕ) (a : Around) : Type 0 where
+    pub from : Kind
+    pub mode : t ≡ ValueOf from
+    pub empty : stack ≡ []
+    pub stores : stores_value k from ≡ true
+    pub tested : ℕ
+    pub test : InstrsAt piece (test_code k from) p tested
+    pub start : ℕ
+    pub push : IsAt piece tested Psh start
+    pub pending : Pending x n done (Word k ∷ []) left rest start c a
+
+  -- its place is to come, whose address does
+  pub record PlaceWaits (x n : ℕ) (done : List Datum) (left : List Argument) (rest : Setting → Reach) (t : Mode) (p : ℕ) (stack : List ℕ) (c : ℕ) (a : Around) : Type 0 where
+    pub of : Designator
+    pub mode : t ≡ AtPlace of
+    pub empty : stack ≡ []
+    pub tested : ℕ
+    pub address : InstrsAt piece (address_code (access_of l of)) p tested
+    pub start : ℕ
+    pub push : IsAt piece tested Psh start
+    pub pending : Pending x n done (Address (shape_of l.scope of) ∷ []) left rest start c a
+
   -- the end of a procedure or a body
   pub record EndWaits (n : ℕ) (k : List Item) (rest : Setting → Reach) (t : Mode) (p : ℕ) (stack : List ℕ) (c : ℕ) (a : Around) : Type 0 where
     pub quiet : t ≡ Quiet
@@ -624,6 +723,7 @@ module _ (ctx : Setting) where
     pub activation : n ≡ active.activation
     pub alone : a ≡ outside active
     pub free : active.layout.held ≡ []
+    pub idle : active.pushed ≡ 0
     pub end : ℕ
     pub leave : IsAt piece p Rtn end
     pub behind : Behind k rest c ctx.stack.callers ctx.stack.bodies
@@ -634,6 +734,8 @@ module _ (ctx : Setting) where
   ItemWaits (Perform (Turns x kind z step left body)) k rest = TurnsTask x kind z step left body (rest ctx)
   ItemWaits (Perform (Holding place)) k rest = HoldingWaits place rest
   ItemWaits (Perform (End n)) k rest = EndWaits n k rest
+  ItemWaits (Fill (Pass (Called x n) kind done left)) k rest = ValueWaits x n kind done left rest
+  ItemWaits (Fill (PassPlace (Called x n) done left)) k rest = PlaceWaits x n done left rest
   ItemWaits i k rest = Waiting i (rest ctx)
 
 -- Items that are left; the last is an end. Jumps may lead to the code of each.
@@ -644,15 +746,17 @@ RowsOf (i ∷ k) ctx = AfterJumps ctx.stack.frame.piece (ItemWaits ctx i k (Rows
 abbrev pub Rows : Setting → List Item → Reach
 Rows ctx k = RowsOf k ctx
 
--- all that is left, or nothing
+-- all that is left, or nothing. A call whose next argument is at hand comes first
 abbrev pub Ahead : Setting → List Item → Reach
 Ahead ctx [] = EndedWaits ctx
+Ahead ctx (Perform (Passing (Called x n) done left) ∷ k) = AfterJumps ctx.stack.frame.piece (PendingWaits ctx x n done left (RowsOf k))
 Ahead ctx (i ∷ k) = Rows ctx (i ∷ k)
 
 -- ---- how long items can stutter: a count that falls at each step of the source that takes no step of the machine
 abbrev mutual
   pub place_stutter : Designator → ℕ
   place_stutter (Variable x) = 2
+  place_stutter (Handed n x) = 2
   place_stutter (Held w) = 2
   place_stutter (Field d i) = 2 + place_stutter d
   place_stutter (Element d k e) = 1 + place_stutter d + value_stutter e
@@ -670,6 +774,7 @@ abbrev mutual
 
 abbrev pub argument_stutter : Argument → ℕ
 argument_stutter (ByValue k e) = value_stutter e
+argument_stutter (OfPlace d) = place_stutter d
 argument_stutter (OfArray d high) = place_stutter d
 argument_stutter (OfText cs) = 0
 
@@ -696,7 +801,7 @@ abbrev mutual
   statement_stutter Exit = 1
   statement_stutter Halt = 1
   statement_stutter Return = 1
-  statement_stutter (Call p n) = 1
+  statement_stutter (Call p n given) = 1 + passing_stutter given
   statement_stutter (For x k a b step body) = 1 + value_stutter a + value_stutter b
 
   pub body_stutter : Statements → ℕ
@@ -717,6 +822,7 @@ hole_stutter Pointed = 0
 hole_stutter (NewAt n) = 0
 hole_stutter (AllocateBy back e) = value_stutter e
 hole_stutter (AllocateAt back place) = 0
+hole_stutter (PassPlace r done left) = passing_stutter left
 hole_stutter (PassArray r high done left) = passing_stutter left
 hole_stutter (Hold body) = 0
 hole_stutter (ChangeBy down k e) = value_stutter e

@@ -3,9 +3,9 @@ use Rattle.std.proofs.Common.{◌≡◌, ℕ, pos, negsuc, Bool, true, false, Li
 use Rattle.std.specs.Prelude.{◌&&◌, Ok, Err, codes}
 use Rattle.lil_base.specs.{Words.{Cardinal, Integer, between}, declared.{operator.TwoOp.TheVariants.{Equal, Less, AtLeast, Div, Mod}, request.Request.TheVariants.{Write, WriteCard, WriteInt, WriteOct, WriteHex}}}
 use Rattle.lil_base.specs.declared.fault.TrapKind.TheVariants as trap
-use Rattle.lil_resolved.specs.Kinds.{Workspaces, Kind, OfWhole, OfTruth, OfCharacter, OfPointer, OfRange, Scalar, Number, Truth, Character, SetOf, ToObject, Nil, Nothing, within, value_with, Shape, Word, Row, fields_of}
-use Rattle.lil_resolved.specs.Resolved.{Named, OfModule, OfLevel, Designator, Variable, Field, Element, Chr, Val, Expression, Constant, Taken, ByValue, Statement, Assign, Change, Request, Loop, Halt, Return, Call, For, Statements, Empty, Then, Arms, NoElse, Else, Arm, Procedure, Resolved, in_order}
-use Rattle.lil_meaning.specs.{Items.{Global, got, Do, Looping, Turns, End, Item, Perform, Ended, Trapped}, World.{World, Single, piece_of, Stream, Channel, OpenBy, Closed, all_closed}, Steps.{applied, function_value, chosen, turns, exited}, Runs.{src, state_of}}
+use Rattle.lil_resolved.specs.Kinds.{Workspaces, Kind, OfWhole, OfTruth, OfCharacter, OfPointer, OfRange, Scalar, Number, Truth, Character, SetOf, ToObject, Nil, Nothing, within, value_with, Shape, Word, Row, Address, fields_of}
+use Rattle.lil_resolved.specs.Resolved.{Named, OfModule, OfLevel, Designator, Variable, Handed, Field, Element, Chr, Val, Expression, Constant, Taken, Two, ByValue, OfPlace, Statement, Assign, Change, Request, Loop, Halt, Return, Call, For, Statements, Empty, Then, Arms, NoElse, Else, Arm, Procedure, Resolved, in_order}
+use Rattle.lil_meaning.specs.{Items.{Global, got, Do, Looping, Turns, End, Item, Perform, Ended, Trapped}, World.{World, Single, piece_of, Stream, Channel, OpenBy, Closed, all_closed}, Steps.{applied, function_value, chosen, turns, exited}, Runs.{src, state_of}, Need.chain_of}
 
 -- ---- the turns of FOR: up to the greatest number, none downward, down by two, and past the limit
 turn_counts : turns (pos 65534) (pos 65535) (pos 1) ∷ turns (pos 3) (pos 1) (pos 1) ∷ turns (pos 5) (pos 1) (negsuc 1) ∷ turns (pos 1) (pos 6) (pos 2) ∷ [] ≡ 2 ∷ 0 ∷ 3 ∷ 3 ∷ []
@@ -164,13 +164,13 @@ abbrev outer : Designator
 outer = Variable (OfLevel 1 0)
 
 abbrev procedure : List ℕ → List Statement → Procedure
-procedure around statements = record { name = 112 ∷ []; around = around; locals = Word kc ∷ []; body = in_order statements }
+procedure around statements = record { name = 112 ∷ []; around = around; locals = Word kc ∷ []; parameters = 0; body = in_order statements }
 
 -- p adds its variable to c, changes it, calls q inside, which changes p's variable and has one of its own, and adds p's variable to c again
 abbrev nested : Resolved
-nested = record (program (Call 1 0 ∷ [])) {
+nested = record (program (Call 1 0 [] ∷ [])) {
   procedures =
-      procedure [] (Change false c kc (Taken own kc) ∷ Change false own kc (cardinal 3) ∷ Call 2 1 ∷ Change false c kc (Taken own kc) ∷ [])
+      procedure [] (Change false c kc (Taken own kc) ∷ Change false own kc (cardinal 3) ∷ Call 2 1 [] ∷ Change false c kc (Taken own kc) ∷ [])
       ∷ procedure (1 ∷ []) (Change false outer kc (cardinal 4) ∷ Change false own kc (cardinal 9) ∷ For (OfLevel 1 0) kc (cardinal 5) (cardinal 6) (pos 1) Empty ∷ Change false outer kc (Taken own kc) ∷ [])
       ∷ [];
 }
@@ -180,10 +180,38 @@ a_nested_call w = refl
 
 -- each of two calls begins with zero
 abbrev twice : Resolved
-twice = record (program (Call 1 0 ∷ Call 1 0 ∷ [])) { procedures = procedure [] (Change false own kc (cardinal 3) ∷ Change false c kc (Taken own kc) ∷ []) ∷ [] }
+twice = record (program (Call 1 0 [] ∷ Call 1 0 [] ∷ [])) { procedures = procedure [] (Change false own kc (cardinal 3) ∷ Change false c kc (Taken own kc) ∷ []) ∷ [] }
 
 two_calls : (w : World) → got (state_of twice (idle w) 40).cells (record { root = Global 1 0; path = [] }) ≡ Number (pos 6)
 two_calls w = refl
+
+-- ---- parameters: p(n: CARDINAL; VAR v: CARDINAL) adds n to v, and has a variable besides, which is zero
+abbrev adds : Procedure
+adds = record { name = 112 ∷ []; around = []; locals = Word kc ∷ Address (Word kc) ∷ Word kc ∷ []; parameters = 2; body = in_order (Change false (Handed 0 1) kc (Taken own kc) ∷ Change false (Handed 0 1) kc (Taken (Variable (OfLevel 0 2)) kc) ∷ Change false own kc (cardinal 90) ∷ []) }
+
+abbrev calls : List Statement → Resolved
+calls statements = record (program statements) { procedures = adds ∷ [] }
+
+abbrev adding : Expression → Designator → Statement
+adding e d = Call 1 0 (ByValue kc e ∷ OfPlace d ∷ [])
+
+-- a value is taken at its turn, and a place stays
+two_arguments : (w : World) → got (state_of (calls (Assign c kc (cardinal 7) ∷ adding (Taken c kc) c ∷ adding (Taken c kc) c ∷ [])) (idle w) 60).cells (record { root = Global 1 0; path = [] }) ≡ Number (pos 28)
+two_arguments w = refl
+
+-- arguments are taken from left to right, and a trap there is the caller's
+from_left_to_right : (w : World)
+    → (state_of (record (table (adding (Two Div kc (cardinal 1) (cardinal 0)) (second (cardinal 6)) ∷ [])) { procedures = adds ∷ [] }) (idle w) 40).phase ≡ Trapped (record { kind = trap.Divisor; «module» = []; procedure = None })
+from_left_to_right w = refl
+
+-- an argument outside its parameter's kind is a trap of the caller
+outside_the_parameter : (w : World) → (state_of (calls (Call 1 0 (ByValue digit (cardinal 6) ∷ OfPlace c ∷ []) ∷ [])) (idle w) 40).phase ≡ Trapped (record { kind = trap.Range; «module» = []; procedure = None })
+outside_the_parameter w = refl
+
+-- a call counts from its arguments on: its frame of seven words and 17 more, beside the body's four and 17
+a_pending_call : (w : World) → chain_of (calls (adding (cardinal 3) c ∷ []) ∷ []) (state_of (calls (adding (cardinal 3) c ∷ [])) (idle w) 1) ∷ chain_of (calls (adding (cardinal 3) c ∷ []) ∷ []) (state_of (calls (adding (cardinal 3) c ∷ [])) (idle w) 3) ∷ chain_of (calls (adding (cardinal 3) c ∷ []) ∷ []) (state_of (calls (adding (cardinal 3) c ∷ [])) (idle w) 6) ∷ []
+    ≡ 45 ∷ 45 ∷ 45 ∷ []
+a_pending_call w = refl
 
 -- ---- the end of a level closes its stream first, and then its channels, a step each; a channel of another level stays
 abbrev stream : Stream

@@ -2,7 +2,7 @@
 use Rattle.std.proofs.Common.{◌≡◌, ℕ, pos, List, [], ◌∷◌, ◌++◌, map, refl}
 use Rattle.lil_base.specs.{Words.Cardinal, declared.{operator.TwoOp.TheVariants.{Plus, Times}, request.Request.TheVariants.Write}}
 use Rattle.lil_resolved.specs.{Kinds.{Kind, OfWhole, OfCharacter, Number, Character, Word}, Resolved.{OfModule, Designator, Variable, Chr, Expression, Constant, Taken, Two, Apply, Argument, ByValue, Assign, Request, Resolved, in_order}}
-use Rattle.lil_meaning.specs.{Items.{Global, Place, got, Source, Item, Scalars, Places, Get, StoreAt, SetTo, LeftOf, RightOf, ApplyTo, Pass, Do, Passing, End, Value, Evaluate, PlaceOf, Fill, Perform, Ended, Going}, World.World, Runs.state_of}
+use Rattle.lil_meaning.specs.{Items.{Global, Place, got, Source, Item, Scalars, Places, Get, StoreAt, SetTo, LeftOf, RightOf, ApplyTo, Requested, Pass, Do, Passing, End, Value, Evaluate, PlaceOf, Fill, Perform, Ended, Going}, World.World, Runs.state_of}
 
 abbrev k : Kind
 k = OfWhole Cardinal
@@ -41,7 +41,7 @@ abbrev rest : List Item
 rest = Perform (Do (Request Write given)) ∷ end
 
 abbrev pass : List Item
-pass = Fill (Pass Write OfCharacter [] []) ∷ end
+pass = Fill (Pass (Requested Write) OfCharacter [] []) ∷ end
 
 abbrev chr : List Item
 chr = Fill (ApplyTo Chr) ∷ pass
@@ -63,7 +63,7 @@ steps : (w : World) → map (left w) (0 ∷ 1 ∷ 2 ∷ 3 ∷ 4 ∷ 5 ∷ 6 ∷ 
     (Evaluate (n 7) ∷ Fill (StoreAt place k) ∷ rest) ∷
     (v 7 ∷ Fill (StoreAt place k) ∷ rest) ∷
     (rest) ∷
-    (Perform (Passing Write [] given) ∷ end) ∷
+    (Perform (Passing (Requested Write) [] given) ∷ end) ∷
     (Evaluate (Apply Chr plus) ∷ pass) ∷
     (Evaluate plus ∷ chr) ∷
     (Evaluate times ∷ sum) ∷
@@ -78,7 +78,7 @@ steps : (w : World) → map (left w) (0 ∷ 1 ∷ 2 ∷ 3 ∷ 4 ∷ 5 ∷ 6 ∷ 
     (v 2 ∷ Fill (RightOf Plus k (Number (pos 63))) ∷ chr) ∷
     (v 65 ∷ chr) ∷
     (Value (Scalars (Character 65)) ∷ pass) ∷
-    (Perform (Passing Write (Scalars (Character 65) ∷ []) []) ∷ end) ∷
+    (Perform (Passing (Requested Write) (Scalars (Character 65) ∷ []) []) ∷ end) ∷
     (end) ∷
     ([]) ∷
     []

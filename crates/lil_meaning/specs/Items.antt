@@ -73,12 +73,6 @@ zero_in _ = Nothing
 abbrev pub zeros_under : Shape → Under
 zeros_under t q = zero_in (part_at t q)
 
--- the cells of the variables of a new activation, by its number: zero of its kind in each scalar
-abbrev pub with_locals : Cells → ℕ → List Shape → Cells
-with_locals cells a ts (Local b x) q = if b == a then zeros_under (shape_at ts x) q else cells (Local b x) q
-with_locals cells a ts (Global m x) q = cells (Global m x) q
-with_locals cells a ts (Object o) q = cells (Object o) q
-
 -- an object, as a place
 abbrev pub object_place : ℕ → Place
 object_place o = record { root = Object o; path = [] }
@@ -120,6 +114,26 @@ pub data Datum : Type 0 where
   Wholes : (u : Under) → Datum
   Opens : (p : Place) (high : ℕ) → Datum
   Texts : (cs : List ℕ) → Datum
+
+-- what lies in a variable of a new activation: the value that was given for it, else zero of its kind in each scalar
+abbrev pub begun : Option Datum → Shape → Under
+begun None t = zeros_under t
+begun (Some (Scalars v)) t = alone v
+begun (Some (Places p)) t = zeros_under t
+begun (Some (Wholes u)) t = u
+begun (Some (Opens p high)) t = zeros_under t
+begun (Some (Texts cs)) t = zeros_under t
+
+-- the cells of the variables of a new activation, by its number, with what was given for the first of them
+abbrev pub with_locals : Cells → ℕ → List Datum → List Shape → Cells
+with_locals cells a done ts (Local b x) q = if b == a then begun (slice_get done x) (shape_at ts x) q else cells (Local b x) q
+with_locals cells a done ts (Global m x) q = cells (Global m x) q
+with_locals cells a done ts (Object o) q = cells (Object o) q
+
+-- what takes arguments: a resident procedure, by its request, or a procedure of the module, by its number, which is declared so many levels out
+pub data Receiver : Type 0 where
+  Requested : (r : Request) → Receiver
+  Called : (p n : ℕ) → Receiver
 
 -- the items with a hole
 pub data Hole : Type 0 where
@@ -177,10 +191,12 @@ pub data Hole : Type 0 where
   MemberBy : (out : Bool) (k : Kind) (e : Expression) → Hole
   -- the number · joins or leaves the set at the place
   MemberAt : (out : Bool) (p : Place) (k : Kind) → Hole
-  -- · is the next argument of the request
-  Pass : (r : Request) (k : Kind) (done : List Datum) (left : List Argument) → Hole
-  -- the array ·, with this last element, is the next argument of the request
-  PassArray : (r : Request) (high : ℕ) (done : List Datum) (left : List Argument) → Hole
+  -- · is the next argument
+  Pass : (r : Receiver) (k : Kind) (done : List Datum) (left : List Argument) → Hole
+  -- the place · is the next argument
+  PassPlace : (r : Receiver) (done : List Datum) (left : List Argument) → Hole
+  -- the array ·, with this last element, is the next argument
+  PassArray : (r : Receiver) (high : ℕ) (done : List Datum) (left : List Argument) → Hole
   -- the first statements where · is TRUE, else the second
   Choose : (a b : Statements) → Hole
   -- the body and the whole WHILE again where · is TRUE
@@ -199,8 +215,8 @@ pub data Hole : Type 0 where
 -- the items without one
 pub data Task : Type 0 where
   Do : (s : Statement) → Task
-  -- the arguments of a request that are done, and those that are left
-  Passing : (r : Request) (done : List Datum) (left : List Argument) → Task
+  -- the arguments that are done, and those that are left
+  Passing : (r : Receiver) (done : List Datum) (left : List Argument) → Task
   -- the condition of a REPEAT, behind its body
   Until : (body : Statements) (c : Expression) → Task
   -- the end of a LOOP's body, which begins again

@@ -1,7 +1,7 @@
 -- What the calls at hand need of the stack.
-use Rattle.std.specs.Prelude.{ℕ, zero, suc, ◌+◌, List, [], ◌∷◌, Option, Some, None, slice_get}
-use Rattle.lil_resolved.specs.{Resolved.{Procedure, Resolved}, Sizes.frame_words}
-use Rattle.lil_meaning.specs.Items.{loaded_at, End, Item, Perform, Activation, Source}
+use Rattle.std.specs.Prelude.{ℕ, zero, suc, ◌+◌, ◌<◌, ◌≡◌, ◌⊎◌, List, [], ◌∷◌, length, Option, Some, None, slice_get}
+use Rattle.lil_resolved.specs.{Resolved.{Procedure, Resolved, procedure_by}, Sizes.frame_words}
+use Rattle.lil_meaning.specs.{Items.{loaded_at, Receiver, Requested, Called, Hole, Pass, PassPlace, PassArray, Task, Passing, End, Item, Fill, Perform, Activation, Source}, Steps.{current, owner_of, procedures_of}}
 
 -- how many words the frame of a procedure takes
 abbrev pub frame_by : Option Procedure → ℕ
@@ -27,12 +27,50 @@ abbrev pub with_callers : Option Activation → ℕ → ℕ
 with_callers None rest = 0
 with_callers (Some a) rest = unless_body a.procedure rest
 
--- what all calls take whose ends are left
+-- what takes the arguments that an item is about
+abbrev pub hole_receiver : Hole → Option Receiver
+hole_receiver (Pass r k done left) = Some r
+hole_receiver (PassPlace r done left) = Some r
+hole_receiver (PassArray r high done left) = Some r
+hole_receiver _ = None
+
+abbrev pub task_receiver : Task → Option Receiver
+task_receiver (Passing r done left) = Some r
+task_receiver _ = None
+
+abbrev pub receiver_of : Item → Option Receiver
+receiver_of (Fill h) = hole_receiver h
+receiver_of (Perform t) = task_receiver t
+receiver_of _ = None
+
+-- a call takes the same from the start of its arguments on
+abbrev pub pending_cost : Option Resolved → Option Receiver → ℕ
+pending_cost m None = 0
+pending_cost m (Some (Requested r)) = 0
+pending_cost m (Some (Called p n)) = frame_of m p + 17
+
+-- what all calls take whose arguments or ends are left
 abbrev pub chain : List Resolved → List ℕ → List Activation → List Item → ℕ
 chain library loaded acts [] = 0
 chain library loaded acts (Perform (End a) ∷ k) = cost library loaded (slice_get acts a) + with_callers (slice_get acts a) (chain library loaded acts k)
-chain library loaded acts (i ∷ k) = chain library loaded acts k
+chain library loaded acts (i ∷ k) = pending_cost (loaded_at library loaded (owner_of (slice_get acts (current k)))) (receiver_of i) + chain library loaded acts k
 
 -- the same of a state
 abbrev pub chain_of : List Resolved → Source → ℕ
 chain_of library s = chain library s.loaded s.activations s.items
+
+-- ---- whether a call has begun
+-- the procedure of whose call an argument or the begin comes next
+abbrev pub next_called : List Item → Option ℕ
+next_called (Perform (Passing (Called p n) done left) ∷ k) = Some p
+next_called _ = None
+
+pub record IsCalling (library : List Resolved) (s : Source) : Type 0 where
+  pub number : ℕ
+  pub its : Procedure
+  pub is : next_called s.items ≡ Some number
+  pub there : procedure_by (procedures_of (loaded_at library s.loaded (owner_of (slice_get s.activations (current s.items))))) number ≡ Some its
+
+-- there is an activation behind the first one, or one of a procedure that is there is to come
+abbrev pub HasCalls : List Resolved → Source → Type 0
+HasCalls library s = (1 < length s.activations) ⊎ IsCalling library s

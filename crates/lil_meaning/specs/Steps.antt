@@ -5,11 +5,10 @@ use Rattle.lil_base.specs.{Words.{Whole, Cardinal, sum, difference, product, quo
 use Rattle.lil_base.specs.declared.operator.TwoOp.TheVariants.{Equal, Unequal, Less, AtMost, Greater, AtLeast, In, Plus, Minus, Times, Slash, Div, Mod}
 use Rattle.lil_base.specs.declared.fault.TrapKind.TheVariants as trap
 use Rattle.lil_base.specs.declared.operator.OneOp.TheVariants as one
-use Rattle.lil_base.specs.declared.request.Request as request
 use Rattle.lil_resolved.specs.Kinds.{Kind, OfWhole, OfTruth, OfCharacter, OfEnumeration, OfRange, is_set, is_pointer, nat_of, position, Scalar, Number, Truth, Character, SetOf, ToObject, ToWorkspace, Nil, Nothing, same_reference, within, scalar_word, value_with, ordinal_of, truth_number, truth_of, members_of, Shape, shape_at}
 use Rattle.lil_resolved.specs.Members.{same_members, included, is_in, united, without, shared_members, unshared, from_to}
-use Rattle.lil_resolved.specs.Resolved.{Named, OfModule, OfLevel, Designator, Variable, Held, Field, Element, Follow, Function, Abs, Cap, Chr, Odd, Ord, Val, Expression, Constant, Taken, One, Two, Short, Apply, With, WithSpan, Argument, ByValue, OfArray, OfText, Label, Statement, Assign, Copy, Text, Change, Member, New, Allocate, Request, If, Case, While, Repeat, Loop, Exit, Halt, Return, Call, For, Inside, Statements, Arms, NoElse, Else, Arm, Procedure, Resolved, procedure_by, counted_as}
-use Rattle.lil_meaning.specs.Items.{Cells, with_locals, Global, Local, Slot, Here, At, Along, Place, under, part_of, object_place, stored, got, alone, text_under, zeros_under, targets_of, loaded_at, Datum, Scalars, Places, Wholes, Opens, Texts, Hole, Get, Part, IndexBy, IndexAt, Pointed, SetTo, StoreAt, CopyTo, CopyFrom, TextTo, NewAt, AllocateBy, AllocateAt, ChangeBy, ChangeAt, OneOf, LeftOf, RightOf, ShortOf, ApplyTo, WithMember, MemberOf, WithMembers, MembersFrom, MembersTo, MemberBy, MemberAt, Pass, PassArray, Choose, Turn, Again, Pick, Hold, StartOf, LimitOf, Task, Do, Passing, Until, Looping, Turns, Holding, End, Item, Value, Evaluate, PlaceOf, Fill, Perform, doing, Activation, Parked, Level, Phase, Going, Closing, Ended, Trapped, Source}
+use Rattle.lil_resolved.specs.Resolved.{Named, OfModule, OfLevel, Designator, Variable, Handed, Held, Field, Element, Follow, Function, Abs, Cap, Chr, Odd, Ord, Val, Expression, Constant, Taken, One, Two, Short, Apply, With, WithSpan, Argument, ByValue, OfPlace, OfArray, OfText, Label, Statement, Assign, Copy, Text, Change, Member, New, Allocate, Request, If, Case, While, Repeat, Loop, Exit, Halt, Return, Call, For, Inside, Statements, Arms, NoElse, Else, Arm, Procedure, Resolved, procedure_by, counted_as}
+use Rattle.lil_meaning.specs.Items.{Cells, with_locals, Global, Local, Slot, Here, At, Along, Place, under, part_of, object_place, stored, got, alone, text_under, zeros_under, targets_of, loaded_at, Datum, Scalars, Places, Wholes, Opens, Texts, Hole, Get, Part, IndexBy, IndexAt, Pointed, SetTo, StoreAt, CopyTo, CopyFrom, TextTo, NewAt, AllocateBy, AllocateAt, ChangeBy, ChangeAt, OneOf, LeftOf, RightOf, ShortOf, ApplyTo, WithMember, MemberOf, WithMembers, MembersFrom, MembersTo, MemberBy, MemberAt, Receiver, Requested, Called, Pass, PassPlace, PassArray, Choose, Turn, Again, Pick, Hold, StartOf, LimitOf, Task, Do, Passing, Until, Looping, Turns, Holding, End, Item, Value, Evaluate, PlaceOf, Fill, Perform, doing, Activation, Parked, Level, Phase, Going, Closing, Ended, Trapped, Source}
 use Rattle.lil_meaning.specs.World.{World, Given, Single, Characters, serve, closing}
 
 -- the activation at hand: that of the nearest end
@@ -281,6 +280,7 @@ found_at (Some p) k s = with_items s (Value (Places p) ∷ k)
 
 abbrev pub placed : Designator → List Item → Source → Source
 placed (Variable v) k s = found_at (variable_place s v) k s
+placed (Handed n x) k s = found_at (variable_place s (OfLevel n x)) k s
 placed (Held w) k s = found_at (held_in k w) k s
 placed (Field d i) k s = with_items s (PlaceOf d ∷ Fill (Part i) ∷ k)
 placed (Element d kind e) k s = with_items s (PlaceOf d ∷ Fill (IndexBy kind e) ∷ k)
@@ -393,6 +393,7 @@ filled_place library Pointed p k s = pointed library (got s.cells p) k s
 filled_place library (NewAt n) p k s = made (target_of library s n) p k s
 filled_place library (AllocateBy back e) p k s = with_items s (Evaluate e ∷ Fill (AllocateAt back p) ∷ k)
 filled_place library (TextTo cs) p k s = record s { items = k; cells = stored s.cells p (text_under cs) }
+filled_place library (PassPlace r done left) p k s = with_items s (Perform (Passing r (done ++ Places p ∷ []) left) ∷ k)
 filled_place library (PassArray r high done left) p k s = with_items s (Perform (Passing r (done ++ Opens p high ∷ []) left) ∷ k)
 filled_place library (Hold body) p k s = with_items s (doing body (Perform (Holding p) ∷ k))
 filled_place library (MemberBy out kind e) p k s = with_items s (Evaluate e ∷ Fill (MemberAt out p kind) ∷ k)
@@ -414,27 +415,40 @@ abbrev pub procedures_of : Option Resolved → List Procedure
 procedures_of None = []
 procedures_of (Some m) = m.procedures
 
--- each variable of a procedure is one of its own cells
+-- a variable of a procedure is one of its own cells, or what was handed in
 abbrev pub own_slot : Shape → Slot
 own_slot t = Here
 
--- the activation of a procedure that the one at hand calls
-abbrev pub called_by : List Activation → (owner here p n : ℕ) → Procedure → Activation
-called_by acts owner here p n its = record { owner = owner; procedure = p; outer = declaring acts here n; slots = map own_slot its.locals }
+abbrev pub slot_of : Datum → Slot
+slot_of (Scalars v) = Here
+slot_of (Places p) = At p
+slot_of (Wholes u) = Here
+slot_of (Opens p high) = Along p high
+slot_of (Texts cs) = Here
 
--- a procedure begins: its activation, whose variables are zero, its statements and its end
-abbrev pub entered : Option Procedure → (Procedure → Activation) → List Item → Source → Source
-entered None a k s = s
-entered (Some its) a k s = record s {
+-- its variables, the first by what was given for them
+abbrev pub slots_by : List Datum → List Shape → List Slot
+slots_by [] ts = map own_slot ts
+slots_by (d ∷ done) [] = []
+slots_by (d ∷ done) (t ∷ ts) = slot_of d ∷ slots_by done ts
+
+-- the activation of a procedure that the one at hand calls
+abbrev pub called_by : List Activation → (owner here p n : ℕ) → List Datum → Procedure → Activation
+called_by acts owner here p n done its = record { owner = owner; procedure = p; outer = declaring acts here n; slots = slots_by done its.locals }
+
+-- a procedure begins: its activation, whose other variables are zero, its statements and its end
+abbrev pub entered : Option Procedure → (Procedure → Activation) → List Datum → List Item → Source → Source
+entered None a done k s = s
+entered (Some its) a done k s = record s {
   activations = s.activations ++ a its ∷ [];
-  cells = with_locals s.cells (length s.activations) its.locals;
+  cells = with_locals s.cells (length s.activations) done its.locals;
   items = doing its.body (Perform (End (length s.activations)) ∷ k);
 }
 
-abbrev pub called : List Resolved → (p n : ℕ) → List Item → Source → Source
-called library p n k s =
+abbrev pub called : List Resolved → (p n : ℕ) → List Datum → List Item → Source → Source
+called library p n done k s =
     entered (procedure_by (procedures_of (loaded_at library s.loaded (owner_of (slice_get s.activations (current k))))) p)
-    (called_by s.activations (owner_of (slice_get s.activations (current k))) (current k) p n) k s
+    (called_by s.activations (owner_of (slice_get s.activations (current k))) (current k) p n done) done k s
 
 -- a procedure or a body ends, by its end or by RETURN: what stands behind its end is next
 abbrev pub activation_ended : List Item → Source → Source
@@ -447,7 +461,7 @@ did library (Text d cs) k s = with_items s (PlaceOf d ∷ Fill (TextTo cs) ∷ k
 did library (New d n) k s = with_items s (PlaceOf d ∷ Fill (NewAt n) ∷ k)
 did library (Allocate back d e) k s = with_items s (PlaceOf d ∷ Fill (AllocateBy back e) ∷ k)
 did library (Inside d body) k s = with_items s (PlaceOf d ∷ Fill (Hold body) ∷ k)
-did library (Request r given) k s = with_items s (Perform (Passing r [] given) ∷ k)
+did library (Request r given) k s = with_items s (Perform (Passing (Requested r) [] given) ∷ k)
 did library (If c a b) k s = with_items s (Evaluate c ∷ Fill (Choose a b) ∷ k)
 did library (Case e arms) k s = with_items s (Evaluate e ∷ Fill (Pick arms) ∷ k)
 did library (While c body) k s = with_items s (Evaluate c ∷ Fill (Turn c body) ∷ k)
@@ -457,7 +471,7 @@ did library (Change down d kind e) k s = with_items s (PlaceOf d ∷ Fill (Chang
 did library (Member out d kind e) k s = with_items s (PlaceOf d ∷ Fill (MemberBy out kind e) ∷ k)
 did library Halt k s = trapped library s trap.Halted
 did library Return k s = activation_ended (returned k) s
-did library (Call p n) k s = called library p n k s
+did library (Call p n given) k s = with_items s (Perform (Passing (Called p n) [] given) ∷ k)
 did library Exit k s = with_items s (exited k)
 did library (For x kind a b step body) k s = with_items s (Evaluate a ∷ Fill (StartOf x kind b step body) ∷ k)
 
@@ -479,9 +493,10 @@ given_of cells (Texts cs) = Characters (as_array cs)
 given_of cells (Places p) = Characters []
 given_of cells (Wholes u) = Characters []
 
--- the next argument of a request
-abbrev pub passed : request.Request → List Datum → List Argument → Argument → List Item → Source → Source
+-- the next argument
+abbrev pub passed : Receiver → List Datum → List Argument → Argument → List Item → Source → Source
 passed r done left (ByValue kind e) k s = with_items s (Evaluate e ∷ Fill (Pass r kind done left) ∷ k)
+passed r done left (OfPlace d) k s = with_items s (PlaceOf d ∷ Fill (PassPlace r done left) ∷ k)
 passed r done left (OfArray d high) k s = with_items s (PlaceOf d ∷ Fill (PassArray r high done left) ∷ k)
 passed r done left (OfText cs) k s = with_items s (Perform (Passing r (done ++ Texts cs ∷ []) left) ∷ k)
 
@@ -493,10 +508,18 @@ replied done answers w k s = s
 abbrev pub served : List Datum → World × List Given → List Item → Source → Source
 served done r k s = replied done r.1 r.0 k s
 
+-- all arguments are there
+abbrev pub received : List Resolved → Receiver → List Datum → List Item → Source → Source
+received library (Requested r) done k s = served done (serve (level_of s) r (map (given_of s.cells) done) s.world) k s
+received library (Called p n) done k s = called library p n done k s
+
+abbrev pub passed_on : List Resolved → Receiver → List Datum → List Argument → List Item → Source → Source
+passed_on library r done [] k s = received library r done k s
+passed_on library r done (a ∷ left) k s = passed r done left a k s
+
 abbrev pub performed : List Resolved → Task → List Item → Source → Source
 performed library (Do t) k s = did library t k s
-performed library (Passing r done []) k s = served done (serve (level_of s) r (map (given_of s.cells) done) s.world) k s
-performed library (Passing r done (a ∷ left)) k s = passed r done left a k s
+performed library (Passing r done left) k s = passed_on library r done left k s
 performed library (Until body c) k s = with_items s (Evaluate c ∷ Fill (Again body c) ∷ k)
 performed library (Looping body) k s = with_items s (doing body (Perform (Looping body) ∷ k))
 performed library (Turns x kind z step left body) k s = turned_on library x kind z step left body k s

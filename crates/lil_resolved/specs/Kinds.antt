@@ -1,5 +1,5 @@
 -- The sorts of values that scalar variables, parameters and expressions have, the scalars themselves, and the shapes of what lies in variables.
-use Rattle.std.specs.Prelude.{◌≡◌, ◌<◌, length, drop, ℕ, zero, suc, ◌+◌, ◌*◌, Bool, true, false, List, [], ◌∷◌, Option, Some, None, option_and_then, slice_get, nat_lt, if◌then◌else◌, ◌-◌, ◌==◌, ℤ, pos, not, ◌&&◌, nat_le, negsuc, ◌+ℤ◌, ◌-ℤ◌, int_lt, ◌||◌}
+use Rattle.std.specs.Prelude.{◌≡◌, ◌<◌, length, take, drop, ℕ, zero, suc, ◌+◌, ◌*◌, Bool, true, false, List, [], ◌∷◌, Option, Some, None, option_and_then, slice_get, nat_lt, if◌then◌else◌, ◌-◌, ◌==◌, ℤ, pos, not, ◌&&◌, nat_le, negsuc, ◌+ℤ◌, ◌-ℤ◌, int_lt, ◌||◌}
 use Rattle.lil_base.specs.{Words.{in_type, between, is_zero, word_of, Whole, Cardinal, Integer}, Sets.{has, set_word}}
 use Rattle.lil_resolved.specs.Members.{no_members}
 use Rattle.lil_base.specs.Words as type
@@ -267,13 +267,16 @@ scalar_word _ = 0
 
 -- ---- shapes: which scalars lie in a variable or an object, by their paths, and how many words they take
 
--- no cell, a scalar of a kind, no field, a field before others, or so many elements
+-- No cell, a scalar of a kind, no field, a field before others, so many elements, the address of a place of a shape, which a VAR parameter
+-- holds, or the address of the first of elements and the number of the last one, which an open array holds. What holds an address has no cells.
 pub data Shape : Type 0 where
   Absent : Shape
   Word : (k : Kind) → Shape
   Blank : Shape
   Join : (first rest : Shape) → Shape
   Row : (count : ℕ) (element : Shape) → Shape
+  Address : (to : Shape) → Shape
+  Opened : (element : Shape) → Shape
 
 abbrev pub words : Shape → ℕ
 words Absent = 0
@@ -281,14 +284,18 @@ words (Word k) = 1
 words Blank = 0
 words (Join a b) = words a + words b
 words (Row n t) = n * words t
+words (Address t) = 1
+words (Opened t) = 2
 
--- whether something lies there
+-- whether something with cells lies there
 abbrev pub is_there : Shape → Bool
 is_there Absent = false
 is_there (Word k) = true
 is_there Blank = true
 is_there (Join a b) = true
 is_there (Row n t) = true
+is_there (Address t) = false
+is_there (Opened t) = false
 
 -- what lies at the end of a path; a field's number counts the fields before it
 abbrev pub part_at : Shape → List ℕ → Shape
@@ -338,10 +345,17 @@ abbrev pub count_of : Shape → ℕ
 count_of (Row n t) = n
 count_of _ = 0
 
--- what names elsewhere need of a procedure: those around it by their numbers, the innermost first, and the shapes of its variables
+-- what lies at the place to which an address leads
+abbrev pub led_to : Shape → Shape
+led_to (Address t) = t
+led_to _ = Absent
+
+-- what names elsewhere need of a procedure: those around it by their numbers, the innermost first, the shapes of its variables, its parameters
+-- first, and how many of them are parameters
 pub record Outline : Type 0 where
   pub around : List ℕ
   pub locals : List Shape
+  pub parameters : ℕ
 
 -- What the names of statements reach: what pointers point to, by the numbers of their types, the module's variables, and the records of the
 -- WITHs around, the innermost first; the procedures of the module, from number 1; and the procedure at hand with those around it by their
@@ -377,7 +391,11 @@ pub record MayCall (ts : Scope) (p n : ℕ) : Type 0 where
   pub known : procedure_by ts.procedures p ≡ Some its
   pub declared : Declared ts.chain n its.around
 
--- ---- variables of procedures
+-- ---- parameters and variables of procedures
+abbrev pub parameters_of : Option Outline → List Shape
+parameters_of None = []
+parameters_of (Some p) = take p.parameters p.locals
+
 abbrev pub locals_of : Option Outline → List Shape
 locals_of None = []
 locals_of (Some p) = p.locals
@@ -385,3 +403,7 @@ locals_of (Some p) = p.locals
 -- the shapes of those of the procedure so many levels out of that at hand
 abbrev pub locals_at : Scope → ℕ → List Shape
 locals_at ts n = locals_of (option_and_then (procedure_by ts.procedures) (slice_get ts.chain n))
+
+-- and those of its parameters
+abbrev pub parameters_at : Scope → ℕ → List Shape
+parameters_at ts n = parameters_of (option_and_then (procedure_by ts.procedures) (slice_get ts.chain n))

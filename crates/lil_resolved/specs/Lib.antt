@@ -3,6 +3,7 @@ pub mod Chains
 pub mod Kinds
 pub mod MemberLaws
 pub mod Members
+pub mod Plain
 pub mod Resolved
 pub mod Sizes
 pub mod Sound

@@ -1,8 +1,8 @@
 -- Resolved modules: each name is replaced by the thing that it means, and each constant expression by its value.
-use Rattle.std.specs.Prelude.{ℕ, ℤ, Bool, true, false, List, [], ◌∷◌, Option, Some, None, map, slice_get}
+use Rattle.std.specs.Prelude.{ℕ, ℤ, Bool, true, false, List, [], ◌∷◌, Option, map, slice_get}
 use Rattle.lil_base.specs.{Words.{Whole, Cardinal}, declared.operator.{OneOp.OneOp, TwoOp.{TwoOp, TheVariants.{Equal, Unequal, Less, AtMost, Greater, AtLeast, In, Plus, Minus, Or, Times, Slash, Div, Mod, And}}}}
 use Rattle.lil_base.specs.declared.request.Request as request
-use Rattle.lil_resolved.specs.Kinds.{Kind, OfWhole, OfTruth, OfCharacter, OfSet, base_of, compared_as, Scalar, Shape, Outline, Scope, locals_at, outermost, part_at, shape_by, shape_at, element_of}
+use Rattle.lil_resolved.specs.Kinds.{Kind, OfWhole, OfTruth, OfCharacter, OfSet, base_of, compared_as, Scalar, Shape, Outline, Scope, locals_at, parameters_at, outermost, part_at, shape_by, shape_at, element_of, led_to}
 pub use Rattle.lil_resolved.specs.Kinds.{procedure_by}
 
 -- standard functions of one value
@@ -23,6 +23,8 @@ mutual
   -- what names a place
   pub data Designator : Type 0 where
     Variable : (v : Named) → Designator
+    -- what was handed in for a VAR parameter, which is a variable of the procedure so many levels out
+    Handed : (n x : ℕ) → Designator
     -- the record of a WITH around, by how many others are between
     Held : (w : ℕ) → Designator
     -- a field of a record, by its number
@@ -50,10 +52,11 @@ mutual
     -- a set, and the numbers of a kind from a to b in it
     WithSpan : (s : Expression) (k : Kind) (a b : Expression) → Expression
 
--- an argument: a value, with its parameter's kind; or for an open array of characters an array, with the number of its last element, or a
--- string
+-- an argument: a value, with its parameter's kind; a place for a VAR parameter; or for an open array of characters an array, with the number
+-- of its last element, or a string
 pub data Argument : Type 0 where
   ByValue : (k : Kind) (e : Expression) → Argument
+  OfPlace : (d : Designator) → Argument
   OfArray : (d : Designator) (high : ℕ) → Argument
   OfText : (cs : List ℕ) → Argument
 
@@ -90,8 +93,8 @@ mutual
     Halt : Statement
     -- RETURN in a body
     Return : Statement
-    -- a call of a procedure without parameters, by its number, which is declared so many levels out; those of the module are 0 levels out
-    Call : (p n : ℕ) → Statement
+    -- a call of a procedure, by its number, which is declared so many levels out; those of the module are 0 levels out
+    Call : (p n : ℕ) (given : List Argument) → Statement
     -- FOR v := a TO b BY step DO body END, with a variable of a kind
     For : (v : Named) (k : Kind) (a b : Expression) (step : ℤ) (body : Statements) → Statement
     -- WITH d DO body END
@@ -113,15 +116,17 @@ abbrev pub in_order : List Statement → Statements
 in_order [] = Empty
 in_order (s ∷ ss) = Then s (in_order ss)
 
--- a procedure: its name, the procedures around it by their numbers, the innermost first, the shapes of its variables, and its statements
+-- a procedure: its name, the procedures around it by their numbers, the innermost first, the shapes of its variables, its parameters first,
+-- how many of them are parameters, and its statements
 pub record Procedure : Type 0 where
   pub name : List ℕ
   pub around : List ℕ
   pub locals : List Shape
+  pub parameters : ℕ
   pub body : Statements
 
 abbrev pub outline_of : Procedure → Outline
-outline_of p = record { around = p.around; locals = p.locals }
+outline_of p = record { around = p.around; locals = p.locals; parameters = p.parameters }
 
 pub record Resolved : Type 0 where
   pub name : List ℕ
@@ -197,6 +202,7 @@ variable_at ts (OfLevel n x) = slice_get (locals_at ts n) x
 -- what lies at the place that a designator names
 abbrev pub shape_of : Scope → Designator → Shape
 shape_of ts (Variable v) = shape_by (variable_at ts v)
+shape_of ts (Handed n x) = led_to (shape_at (parameters_at ts n) x)
 shape_of ts (Held w) = shape_at ts.held w
 shape_of ts (Field d i) = part_at (shape_of ts d) (i ∷ [])
 shape_of ts (Element d k e) = element_of (shape_of ts d)

@@ -1,7 +1,7 @@
 -- How much a module takes: words of the expression stack, of frames and of strings, and the bytes of its code; and modules that are small.
 use Rattle.std.specs.Prelude.{ℕ, zero, suc, List, [], ◌∷◌, ◌++◌, ◌+◌, max, Bool, true, false, ◌*◌, ◌≤◌, ℤ, length, if◌then◌else◌}
 use Rattle.std.specs.List.{flat_map}
-use Rattle.lil_resolved.specs.Resolved.{Named, OfModule, OfLevel, Argument, ByValue, OfArray, OfText, Statement, Assign, Copy, Text, Change, Member, New, Allocate, Request, If, Case, While, Repeat, Loop, Exit, Halt, Return, Call, For, Inside, Statements, Empty, Then, Arms, NoElse, Else, Arm, Procedure, Resolved, Designator, Variable, Held, Field, Element, Follow, Function, Odd, Expression, Constant, Taken, One, Two, Short, Apply, With, WithSpan, Abs, Cap, Chr, Ord, Val, kind_of, counted_as}
+use Rattle.lil_resolved.specs.Resolved.{Named, OfModule, OfLevel, Argument, ByValue, OfPlace, OfArray, OfText, Statement, Assign, Copy, Text, Change, Member, New, Allocate, Request, If, Case, While, Repeat, Loop, Exit, Halt, Return, Call, For, Inside, Statements, Empty, Then, Arms, NoElse, Else, Arm, Procedure, Resolved, Designator, Variable, Handed, Held, Field, Element, Follow, Function, Odd, Expression, Constant, Taken, One, Two, Short, Apply, With, WithSpan, Abs, Cap, Chr, Ord, Val, kind_of, counted_as}
 use Rattle.lil_resolved.specs.Kinds.{Kind, OfWhole, OfCharacter, base_of, compared_as, covers, outside_turns, Shape, all_words}
 use Rattle.lil_base.specs.{declared.operator.{OneOp.OneOp, TwoOp.{TwoOp, TheVariants.{Greater, AtLeast}}}, Words.{Cardinal, Integer}}
 use Rattle.lil_base.specs.declared.operator.OneOp.TheVariants as one
@@ -15,6 +15,7 @@ words_of (c ∷ cs) = c ∷ cs
 
 abbrev pub argument_strings : Argument → List ℕ
 argument_strings (ByValue k e) = []
+argument_strings (OfPlace d) = []
 argument_strings (OfArray d high) = []
 argument_strings (OfText cs) = words_of cs
 
@@ -39,7 +40,7 @@ abbrev mutual
   statement_strings Exit = []
   statement_strings Halt = []
   statement_strings Return = []
-  statement_strings (Call p n) = []
+  statement_strings (Call p n given) = arguments_strings given
   statement_strings (For v k a b step body) = body_strings body
   statement_strings (Inside d body) = body_strings body
 
@@ -73,6 +74,7 @@ function_depth _ = 1
 abbrev mutual
   pub place_depth : Designator → ℕ
   place_depth (Variable v) = 1
+  place_depth (Handed n x) = 1
   place_depth (Held w) = 1
   place_depth (Field d i) = place_depth d
   place_depth (Element d k e) = max (place_depth d) (2 + depth e)
@@ -107,7 +109,7 @@ abbrev mutual
   statement_words Exit = 0
   statement_words Halt = 0
   statement_words Return = 0
-  statement_words (Call p n) = 0
+  statement_words (Call p n given) = 0
   statement_words (For v k a b step body) = 3 + body_words body
   statement_words (Inside d body) = 1 + body_words body
 
@@ -174,6 +176,7 @@ variable_form (OfLevel (suc n) x) = Outward
 
 abbrev pub form_of : Designator → Form
 form_of (Variable v) = variable_form v
+form_of (Handed n x) = Exact
 form_of (Held w) = Exact
 form_of (Field d i) = field_form (form_of d)
 form_of (Element d k e) = Exact
@@ -214,10 +217,16 @@ under_size Direct = 4
 under_size Outward = 5
 under_size _ = 3
 
+-- how many bytes it takes to bring the address that a VAR parameter holds to the expression stack
+abbrev pub handed_size : ℕ → ℕ
+handed_size zero = 3
+handed_size (suc n) = 4
+
 -- how many bytes the code of a place and of an expression takes
 abbrev mutual
   pub place_size : Designator → ℕ
   place_size (Variable v) = 0
+  place_size (Handed n x) = handed_size n
   place_size (Held w) = 3
   place_size (Field d i) = place_size d
   place_size (Element d k e) = place_size d + address_size (form_of d) + size e + test_size k (kind_of e) + 5
@@ -237,14 +246,27 @@ abbrev mutual
 abbrev pub target_size : Designator → ℕ
 target_size d = place_size d + ready_size (form_of d)
 
+-- how many words an argument takes
+abbrev pub argument_words : Argument → ℕ
+argument_words (ByValue k e) = 1
+argument_words (OfPlace d) = 1
+argument_words (OfArray d high) = 2
+argument_words (OfText cs) = 2
+
 abbrev pub argument_size : Argument → ℕ
 argument_size (ByValue k e) = size e + test_size k (kind_of e)
+argument_size (OfPlace d) = place_size d + address_size (form_of d)
 argument_size (OfArray d high) = place_size d + address_size (form_of d) + 3
 argument_size (OfText cs) = 6
 
 abbrev pub arguments_size : List Argument → ℕ
 arguments_size [] = 0
 arguments_size (a ∷ given) = argument_size a + arguments_size given
+
+-- the same, where each word goes from the expression stack to the frame that the call begins
+abbrev pub pushed_size : List Argument → ℕ
+pushed_size [] = 0
+pushed_size (a ∷ given) = argument_size a + argument_words a + pushed_size given
 
 -- the code of ALLOCATE and DEALLOCATE behind the address and the number of words
 abbrev pub allocate_size : Bool → ℕ
@@ -271,7 +293,7 @@ abbrev mutual
   statement_size Exit = 3
   statement_size Halt = 2
   statement_size Return = 1
-  statement_size (Call p n) = 6
+  statement_size (Call p n given) = 6 + pushed_size given
   statement_size (For v k a b step body) = size a + size b + align_size k (kind_of a) step + 12 + test_size k (base_of k) + store_size (variable_form v) + body_size body + 5
   statement_size (Inside d body) = place_size d + address_size (form_of d) + 3 + body_size body
 

@@ -6,8 +6,8 @@ use Rattle.lil_base.specs.declared.operator.OneOp.TheVariants as one
 use Rattle.lil_base.specs.declared.request.Request as request
 use Rattle.lil_base.specs.declared.request.Request.TheVariants as r
 pub use Rattle.lil_resolved.specs.Kinds.{is_base, is_ordinal, is_set, is_whole, is_plain, is_element, alike, takes_value, stores_value}
-use Rattle.lil_resolved.specs.Kinds.{Objects, Workspaces, Kind, OfWhole, OfTruth, OfCharacter, OfSet, OfPointer, base_of, numbers, within, is_literal, scalar_of, ordinal_of, Shape, Word, Row, Scope, with_held, MayCall, shape_at, is_there, count_of}
-use Rattle.lil_resolved.specs.Resolved.{Named, variable_at, Designator, Variable, Held, Field, Element, Follow, Function, Abs, Cap, Chr, Odd, Ord, Val, Expression, Constant, Taken, One, Two, Short, Apply, With, WithSpan, Label, Argument, ByValue, OfArray, OfText, Statement, Assign, Copy, Text, Change, Member, New, Allocate, Request, If, Case, While, Repeat, Loop, Exit, Halt, Return, Call, For, Inside, Statements, Empty, Then, Arms, NoElse, Else, Arm, Procedure, Resolved, procedure_by, scope_in, kind_of, right_kind, counted_as, shape_of}
+use Rattle.lil_resolved.specs.Kinds.{Objects, Workspaces, Kind, OfWhole, OfTruth, OfCharacter, OfSet, OfPointer, base_of, numbers, within, is_literal, scalar_of, ordinal_of, Shape, Word, Row, Address, Opened, Scope, with_held, MayCall, parameters_of, parameters_at, shape_at, is_there, count_of}
+use Rattle.lil_resolved.specs.Resolved.{Named, variable_at, Designator, Variable, Handed, Held, Field, Element, Follow, Function, Abs, Cap, Chr, Odd, Ord, Val, Expression, Constant, Taken, One, Two, Short, Apply, With, WithSpan, Label, Argument, ByValue, OfPlace, OfArray, OfText, Statement, Assign, Copy, Text, Change, Member, New, Allocate, Request, If, Case, While, Repeat, Loop, Exit, Halt, Return, Call, For, Inside, Statements, Empty, Then, Arms, NoElse, Else, Arm, Procedure, Resolved, procedure_by, scope_in, kind_of, right_kind, counted_as, shape_of}
 use Rattle.lil_resolved.specs.Sizes.{place_depth, depth}
 
 -- an operator takes operands of this kind, and IN a left one
@@ -61,6 +61,7 @@ pub record IsScalar (ts : Scope) (d : Designator) (k : Kind) : Type 0 where
 abbrev mutual
   pub IsSoundPlace : Scope → Designator → Type 0
   IsSoundPlace ts (Variable v) = Unit {0}
+  IsSoundPlace ts (Handed n x) = (t : Shape) × (slice_get (parameters_at ts n) x ≡ Some (Address t)) × (is_there t ≡ true)
   IsSoundPlace ts (Held w) = (t : Shape) × (slice_get ts.held w ≡ Some t) × (is_there t ≡ true)
   IsSoundPlace ts (Field d i) = IsSoundPlace ts d
   IsSoundPlace ts (Element d k e) = (count_of (shape_of ts d) ≡ numbers k) × (takes_value k (kind_of e) ≡ true) × IsSoundPlace ts d × IsSoundExpression ts e
@@ -117,7 +118,7 @@ pub record IsSoundArray (ts : Scope) (d : Designator) (high : ℕ) : Type 0 wher
   pub place : IsSoundPlace ts d
   pub shallow : place_depth d ≤ 13
 
--- a record whose place WITH fixes
+-- a place that is fixed: that of the record of a WITH, or of an argument for a VAR parameter
 pub record IsSoundHeld (ts : Scope) (d : Designator) : Type 0 where
   pub there : is_there (shape_of ts d) ≡ true
   pub place : IsSoundPlace ts d
@@ -164,23 +165,19 @@ pub record IsStep (z : ℤ) : Type 0 where
   pub lower : negsuc 32767 ≤ℤ z
   pub upper : z ≤ℤ pos 32767
 
--- a value parameter of a kind, or an open array of characters
-pub data Parameter : Type 0 where
-  Single : (k : Kind) → Parameter
-  Characters : Parameter
-
--- the parameters of a request
-abbrev pub request_parameters : request.Request → List Parameter
-request_parameters r.Write = Single OfCharacter ∷ []
-request_parameters r.WriteString = Characters ∷ []
+-- what the parameters of a request hold
+abbrev pub request_parameters : request.Request → List Shape
+request_parameters r.Write = Word OfCharacter ∷ []
+request_parameters r.WriteString = Opened (Word OfCharacter) ∷ []
 request_parameters r.WriteLn = []
-request_parameters r.WriteCard = Single (OfWhole Cardinal) ∷ Single (OfWhole Cardinal) ∷ []
-request_parameters r.WriteInt = Single (OfWhole Integer) ∷ Single (OfWhole Cardinal) ∷ []
-request_parameters r.WriteOct = Single (OfWhole Cardinal) ∷ Single (OfWhole Cardinal) ∷ []
-request_parameters r.WriteHex = Single (OfWhole Cardinal) ∷ Single (OfWhole Cardinal) ∷ []
+request_parameters r.WriteCard = Word (OfWhole Cardinal) ∷ Word (OfWhole Cardinal) ∷ []
+request_parameters r.WriteInt = Word (OfWhole Integer) ∷ Word (OfWhole Cardinal) ∷ []
+request_parameters r.WriteOct = Word (OfWhole Cardinal) ∷ Word (OfWhole Cardinal) ∷ []
+request_parameters r.WriteHex = Word (OfWhole Cardinal) ∷ Word (OfWhole Cardinal) ∷ []
 
 abbrev pub IsSoundArgument : Scope → Argument → Type 0
-IsSoundArgument ts (ByValue k e) = IsSoundValue ts e k
+IsSoundArgument ts (ByValue k e) = IsSoundStored ts e k
+IsSoundArgument ts (OfPlace d) = IsSoundHeld ts d
 IsSoundArgument ts (OfArray d high) = IsSoundArray ts d high
 IsSoundArgument ts (OfText cs) = is_text cs ≡ true
 
@@ -188,10 +185,28 @@ abbrev pub AreSoundArguments : Scope → List Argument → Type 0
 AreSoundArguments ts [] = Unit {0}
 AreSoundArguments ts (a ∷ given) = IsSoundArgument ts a × AreSoundArguments ts given
 
-abbrev pub parameter_of : Argument → Parameter
-parameter_of (ByValue k e) = Single k
-parameter_of (OfArray d high) = Characters
-parameter_of (OfText cs) = Characters
+-- what the parameter of an argument holds
+abbrev pub parameter_of : Scope → Argument → Shape
+parameter_of ts (ByValue k e) = Word k
+parameter_of ts (OfPlace d) = Address (shape_of ts d)
+parameter_of ts (OfArray d high) = Opened (Word OfCharacter)
+parameter_of ts (OfText cs) = Opened (Word OfCharacter)
+
+-- an argument of one word
+abbrev pub IsSingle : Argument → Type 0
+IsSingle (ByValue k e) = Unit {0}
+IsSingle (OfPlace d) = Unit {0}
+IsSingle (OfArray d high) = ⊥
+IsSingle (OfText cs) = ⊥
+
+abbrev pub AreSingle : List Argument → Type 0
+AreSingle [] = Unit {0}
+AreSingle (a ∷ given) = IsSingle a × AreSingle given
+
+-- arguments are those of parameters which hold this
+pub record IsGiven (ts : Scope) (parameters : List Shape) (given : List Argument) : Type 0 where
+  pub takes : parameters ≡ map (parameter_of ts) given
+  pub sound : AreSoundArguments ts given
 
 -- statements inside a LOOP or not
 abbrev mutual
@@ -203,7 +218,7 @@ abbrev mutual
   IsSoundStatement ts looping (Member out d k e) = IsSoundTarget ts d OfSet × (is_element k ≡ true) × IsSoundValue ts e k
   IsSoundStatement ts looping (New d n) = IsSoundNew ts d n
   IsSoundStatement ts looping (Allocate back d e) = IsSoundTarget ts d (OfPointer Workspaces) × IsSoundValue ts e (OfWhole Cardinal)
-  IsSoundStatement ts looping (Request r given) = (request_parameters r ≡ map parameter_of given) × AreSoundArguments ts given
+  IsSoundStatement ts looping (Request r given) = IsGiven ts (request_parameters r) given
   IsSoundStatement ts looping (If c a b) = IsSoundWhole ts c OfTruth × IsSoundBody ts looping a × IsSoundBody ts looping b
   IsSoundStatement ts looping (Case e arms) = (is_ordinal (kind_of e) ≡ true) × IsSoundWhole ts e (kind_of e) × AreSoundArms ts looping (kind_of e) arms
   IsSoundStatement ts looping (While c body) = IsSoundWhole ts c OfTruth × IsSoundBody ts looping body
@@ -212,7 +227,7 @@ abbrev mutual
   IsSoundStatement ts looping Exit = looping ≡ true
   IsSoundStatement ts looping Halt = Unit {0}
   IsSoundStatement ts looping Return = Unit {0}
-  IsSoundStatement ts looping (Call p n) = MayCall ts p n
+  IsSoundStatement ts looping (Call p n given) = MayCall ts p n × IsGiven ts (parameters_of (procedure_by ts.procedures p)) given × AreSingle given
   IsSoundStatement ts looping (For v k a b step body) = IsSoundVariable ts v k × IsSoundValue ts a k × IsSoundWhole ts b (base_of k) × IsStep step × IsSoundBody ts looping body
   IsSoundStatement ts looping (Inside d body) = IsSoundHeld ts d × IsSoundBody (with_held ts (shape_of ts d)) looping body
 

@@ -4,10 +4,10 @@ use Rattle.lil_base.specs.{declared.operator.{OneOp.OneOp, TwoOp.{TwoOp, TheVari
 use Rattle.lil_resolved.specs.declared.resolved.RExpr.{RExpr, TheOpen.{RExpr-F, RMember-F, RSelector-F, ROperation-F, RPlace-F}}
 use Rattle.lil_resolved.specs.declared.resolved.RExpr.TheFolds.{map-RExpr, map-RSelector, map-RMember, fold-roll-RExpr, fold-roll-RMember, fold-roll-RSelector, fold_out-RSelector, fold_out-RMember, fold_out-ROperation, fold_out-RPlace, fold-RExpr, fold-RSelector, fold-RMember, fold-ROperation, fold-RPlace}
 use Rattle.lil_resolved.specs.declared.resolved.{RExpr.TheViews.{roll-RExpr, roll-RMember, roll-RSelector}, ROperation.{ROperation, out-ROperation}, RPlace.{RPlace, out-RPlace}, RSelector.{RSelector, out-RSelector}, RMember.{RMember, out-RMember}, Membership.Membership, Allocation.Allocation, RKind.RKind}
-use Rattle.lil_resolved.specs.{Kinds.{Kind, Objects, Workspaces, OfWhole, OfTruth, OfCharacter, OfEnumeration, OfSet, OfPointer, OfRange, compared_as, scalar_of, SetOf, Shape, Absent, Word, Row, all_words, offsets_from, shape_at, fields_of, words}, declared.resolved.RStmt.{RStmt, TheOpen.{RStmt-F, RArm-F, RGuard-F}}}
+use Rattle.lil_resolved.specs.{Kinds.{Kind, Objects, Workspaces, OfWhole, OfTruth, OfCharacter, OfEnumeration, OfSet, OfPointer, OfRange, compared_as, scalar_of, SetOf, Shape, Absent, Word, Row, Address, all_words, offsets_from, shape_at, fields_of, words}, declared.resolved.RStmt.{RStmt, TheOpen.{RStmt-F, RArm-F, RGuard-F}}}
 use Rattle.lil_resolved.specs.declared.resolved.{RStmt.{TheFolds.{map-RStmt, fold-roll-RStmt, fold-roll-RArm, fold-roll-RGuard, fold-RStmt, fold-RArm, fold-RGuard}, TheViews.roll-RStmt}, RGuard.RGuard, RArm.RArm, RBase.RBase, RVariable.RVariable, RNamed.RNamed, RFunction.RFunction, Direction.Direction, RArgument.RArgument}
-use Rattle.lil_resolved.specs.Resolved.{Named, OfModule, OfLevel, Designator, Field, Element, Follow, Expression, Constant, Taken, Apply, With, WithSpan, Assign, Copy, Text, Change, Member, New, Allocate, Request, If, Case, While, Repeat, Loop, Exit, Halt, Return, Call, For, Inside, Statements, Empty, Then, Arms, Arm, kind_of, Variable, Held, Function, Abs, Cap, Chr, Odd, Ord, Val, One, Two, Short, Argument, ByValue, OfArray, OfText, Label, NoElse, Else, Procedure, Resolved}
-use Rattle.lil_resolved.specs.{Members.no_members, declared.{resolved.{RRange.RRange, RRoot.RRoot, RDeclared.RDeclared, RLabel.RLabel, RHeading.RHeading, RProcedure.RProcedure, RModule.RModule}, shapes.{RField.RField, RShape.RShape}}}
+use Rattle.lil_resolved.specs.Resolved.{Named, OfModule, OfLevel, Designator, Field, Element, Follow, Expression, Constant, Taken, Apply, With, WithSpan, Assign, Copy, Text, Change, Member, New, Allocate, Request, If, Case, While, Repeat, Loop, Exit, Halt, Return, Call, For, Inside, Statements, Empty, Then, Arms, Arm, kind_of, Variable, Handed, Held, Function, Abs, Cap, Chr, Odd, Ord, Val, One, Two, Short, Argument, ByValue, OfPlace, OfArray, OfText, Label, NoElse, Else, Procedure, Resolved}
+use Rattle.lil_resolved.specs.{Members.no_members, declared.{resolved.{RRange.RRange, RRoot.RRoot, RPassing.RPassing, RDeclared.RDeclared, RLabel.RLabel, RHeading.RHeading, RProcedure.RProcedure, RModule.RModule}, shapes.{RField.RField, RShape.RShape}}}
 use Rattle.lil_resolved.specs.declared.resolved.RExpr.TheVariants as e
 use Rattle.lil_resolved.specs.declared.resolved.RExpr.TheOpen as x
 use Rattle.lil_resolved.specs.declared.resolved.RSelector.TheVariants as l
@@ -24,6 +24,7 @@ use Rattle.lil_resolved.specs.declared.resolved.Allocation.TheVariants as w
 use Rattle.lil_resolved.specs.declared.resolved.RRoot.TheVariants as t
 use Rattle.lil_resolved.specs.declared.resolved.RNamed.TheVariants as n
 use Rattle.lil_resolved.specs.declared.resolved.RArgument.TheVariants as g
+use Rattle.lil_resolved.specs.declared.resolved.RPassing.TheVariants as h
 use Rattle.lil_resolved.specs.declared.shapes.RShape.TheVariants as r
 
 -- ---- kinds, functions and requests
@@ -134,6 +135,7 @@ member_layer (x.Span a b) k s = WithSpan s k a b
 
 abbrev pub root_view : RRoot → Designator
 root_view (t.Variable v) = Variable (named_view v)
+root_view (t.Handed n x) = Handed n x
 root_view (t.Held w) = Held w
 
 abbrev pub operation_layer : ROperation-F Expression (Kind → Expression → Expression) (Designator → Designator) (Expression → Expression) Designator → Expression → Expression
@@ -159,6 +161,7 @@ place_of = fold-RPlace Expression (Kind → Expression → Expression) (Designat
 
 abbrev pub argument_of : RArgument → Argument
 argument_of (g.Value k e) = ByValue (kind_view k) (expression_of e)
+argument_of (g.Place p) = OfPlace (place_of p)
 argument_of (g.Array p high) = OfArray (place_of p) high
 argument_of (g.Text cs) = OfText cs
 
@@ -207,7 +210,7 @@ statement_layer (o.Loop ss) = Then (Loop (all_of ss)) Empty
 statement_layer o.Exit = Then Exit Empty
 statement_layer o.Halt = Then Halt Empty
 statement_layer o.Return = Then Return Empty
-statement_layer (o.Call p n) = Then (Call p n) Empty
+statement_layer (o.Call p n given) = Then (Call p n (map argument_of given)) Empty
 statement_layer (o.For v a b step ss) = Then (For (named_view v.named) (variable_kind v) (expression_of a) (expression_of b) step (all_of ss)) Empty
 statement_layer (o.With p ss) = Then (Inside (place_of p) (all_of ss)) Empty
 
@@ -283,14 +286,19 @@ name_of v = v.name
 abbrev pub offset_of : RDeclared → ℕ
 offset_of v = v.offset
 
+-- what a variable holds: what lies in it, or for a VAR parameter the address of what was handed in
+abbrev pub held_by : RPassing → Shape → Shape
+held_by h.ByValue t = t
+held_by h.ByPlace t = Address t
+
 abbrev pub shape_declared : List RShape → RDeclared → Shape
-shape_declared ts v = shape_at (shapes_of ts) v.shape
+shape_declared ts v = held_by v.passing (shape_at (shapes_of ts) v.shape)
 
 abbrev pub locals_of : List RShape → RHeading → List Shape
 locals_of ts h = map (shape_declared ts) h.locals
 
 abbrev pub procedure_of : List RShape → RProcedure → Procedure
-procedure_of ts p = record { name = p.heading.name; around = p.heading.around; locals = locals_of ts p.heading; body = statements_of p.body }
+procedure_of ts p = record { name = p.heading.name; around = p.heading.around; locals = locals_of ts p.heading; parameters = p.heading.parameters; body = statements_of p.body }
 
 abbrev pub heading_of : RProcedure → RHeading
 heading_of p = p.heading
@@ -425,8 +433,8 @@ halt_is = ap statement_of (sym s.rolls-Halt) ∙ rolled o.Halt
 pub return_is : statement_of s.Return ≡ Then Return Empty
 return_is = ap statement_of (sym s.rolls-Return) ∙ rolled o.Return
 
-pub call_is : (p n : ℕ) → statement_of (s.Call p n) ≡ Then (Call p n) Empty
-call_is p n = ap statement_of (sym (s.rolls-Call p n)) ∙ rolled (o.Call p n)
+pub call_is : (p n : ℕ) (given : List RArgument) → statement_of (s.Call p n given) ≡ Then (Call p n (map argument_of given)) Empty
+call_is p n given = ap statement_of (sym (s.rolls-Call p n given)) ∙ rolled (o.Call p n given)
 
 pub for_is : (v : RVariable) (a b : RExpr) (step : ℤ) (ss : List RStmt)
     → statement_of (s.For v a b step ss) ≡ Then (For (named_view v.named) (variable_kind v) (expression_of a) (expression_of b) step (statements_of ss)) Empty

@@ -103,10 +103,12 @@ pub struct ROperation {
     pub operand: RExpr,
 }
 
-/// With what a place begins: a variable, or the record of a WITH around, of which the innermost is 0.
+/// With what a place begins: a variable, what was handed in for a VAR parameter, by how many levels out its procedure is and
+/// its number among that one's variables, or the record of a WITH around, of which the innermost is 0.
 #[derive(Clone, Copy)]
 pub enum RRoot {
     Variable(RNamed),
+    Handed(u8, usize),
     Held(usize),
 }
 
@@ -136,11 +138,12 @@ pub enum RMember {
     Span(RExpr, RExpr),
 }
 
-/// An argument: a value, with its parameter's kind; or for a parameter that is an open array of characters an array, with
-/// the number of its last element, or a string.
+/// An argument: a value, with its parameter's kind; a place for a VAR parameter; or for a parameter that is an open array of
+/// characters an array, with the number of its last element, or a string.
 #[derive(Drop)]
 pub enum RArgument {
     Value(RKind, RExpr),
+    Place(RPlace),
     Array(RPlace, u16),
     Text(Shared<Text>),
 }
@@ -149,8 +152,8 @@ pub enum RArgument {
 /// goes to an array of characters; a set has its place, and the kind of what joins or leaves it; NEW has the place of the
 /// pointer, and the number of its type; ALLOCATE and DEALLOCATE have the place of the address, and the number of words. IF has its conditions in
 /// order, a CASE or an IF without ELSE has none, FOR has its variable, its first value, its last and its step, and WITH
-/// its record. A call has its procedure's number, from 1, and how many levels out that is declared; those of the module are
-/// declared 0 levels out.
+/// its record. A call has its procedure's number, from 1, how many levels out that is declared, and its arguments; those of the
+/// module are declared 0 levels out.
 #[cycle(resolved)]
 #[derive(Drop)]
 pub enum RStmt {
@@ -170,7 +173,7 @@ pub enum RStmt {
     Exit,
     Halt,
     Return,
-    Call(u8, u8),
+    Call(u8, u8, Items<RArgument>),
     For(RVariable, RExpr, RExpr, i16, Items<RStmt>),
     With(RPlace, Items<RStmt>),
 }
@@ -198,21 +201,31 @@ pub struct RLabel {
     pub high: i32,
 }
 
-/// A variable: its name, the words before it in the module's data or its procedure's frame, and the number of its shape.
+/// Whether a variable holds what lies in it, or, as a VAR parameter, the address of a place that was handed in.
+#[derive(Clone, Copy, PartialEq, Eq)]
+pub enum RPassing {
+    ByValue,
+    ByPlace,
+}
+
+/// A variable: its name, the words before it in the module's data or its procedure's frame, the number of the shape of what
+/// lies in it or of the place that it leads to, and which of the two it is.
 #[derive(Drop)]
 pub struct RDeclared {
     pub name: Name,
     pub offset: u16,
     pub shape: usize,
+    pub passing: RPassing,
 }
 
 /// What names elsewhere need of a procedure: its name, the numbers of the procedures around it, the innermost first, its
-/// variables, and how many words they take.
+/// variables, its parameters before the others, how many parameters it has, and how many words all of them take.
 #[derive(Drop)]
 pub struct RHeading {
     pub name: Name,
     pub around: Items<u8>,
     pub locals: Items<RDeclared>,
+    pub parameters: usize,
     pub words: u16,
 }
 

@@ -1,34 +1,46 @@
 -- Calls of told arguments have values, and are sound statements.
-use Rattle.std.proofs.Common.{◌≡◌, ℕ, suc, ◌+◌, Bool, true, false, not, List, [], ◌∷◌, length, map, slice_get, Option, Some, None, if◌then◌else◌, refl, sym, ap, subst, ◌∙◌, arith, true≢false}
-use Rattle.std.specs.Prelude.{◌==◌, ◌&&◌, ◌<◌, nat_lt, is_some}
-use Rattle.std.proofs.lemmas.{Bool.{and_left, and_right, false_from_ne_true, Decides.nat_tests}, List.length_push}
+use Rattle.std.proofs.Common.{◌≡◌, ℕ, suc, ◌+◌, Bool, true, false, not, List, [], ◌∷◌, ◌++◌, append-nil, append_assoc, length, map, slice_get, Option, Some, None, if◌then◌else◌, refl, sym, ap, subst, ◌∙◌, arith, true≢false}
+use Rattle.std.specs.Prelude.{◌==◌, ◌&&◌, nat_lt, is_some}
+use Rattle.std.proofs.lemmas.{Bool.{and_left, and_right, false_from_ne_true, Decides.nat_tests}, List.length_push, Option.{none-some, same_Some}}
 use Rattle.lil_base.specs.{Lists.joined, declared.fault.Place.Place}
 use Rattle.lil_base.specs.declared.request.Request as requests
 use Rattle.lil_base.specs.declared.request.Request.TheVariants as q
 use Rattle.lil_types.specs.{Types.{Table, integer, cardinal, char, address}, declared.table.Parameter.Parameter}
 use Rattle.lil_declared.specs.declared.{declared.RVar.RVar, standard.Resident.Resident}
 use Rattle.lil_declared.specs.declared.standard.Resident.TheVariants as resident
-use Rattle.lil_resolved.specs.{Kinds.{Scope, MayCall, is_ordinal}, Sound.{Single, request_parameters, parameter_of, AreSoundArguments}, Views.{argument_of, base_view, allocate_is, request_is, call_is}}
+use Rattle.lil_resolved.specs.{Kinds.{Shape, Word, Scope, parameters_of, procedure_by}, Sound.{request_parameters, parameter_of, AreSingle, AreSoundArguments}, Views.{argument_of, base_view, allocate_is, request_is, call_is}}
 use Rattle.lil_resolved.specs.declared.resolved.{Allocation.{Allocation, TheVariants.{Takes, GivesBack}}, RArgument.RArgument, RBase.RBase, RNamed.RNamed, RStmt.RStmt}
 use Rattle.lil_resolved.specs.declared.resolved.RArgument.TheVariants as given
 use Rattle.lil_resolved.specs.declared.resolved.RBase.TheVariants as b
 use Rattle.lil_resolved.specs.declared.resolved.RStmt.TheVariants as statement
-use Rattle.lil_shapes.specs.{BaseLaws.same_sort, Bases.{plain, kind_at}, ListLaws.AllFine, Pointers.lies_at}
+use Rattle.lil_shapes.specs.{BaseLaws.same_sort, Bases.{plain, kind_at}, ListLaws.AllFine, Pointers.lies_at, ShapeSound.mapped, Shaping.all_some}
 use Rattle.lil_scope.specs.Built.{resident_built}
 use Rattle.lil_report.specs.Told.{Row, after}
 use Rattle.lil_kinds.specs.{Forms.{is_routine, arity, parameter, parameters}, declared.found.Found.Found}
-use Rattle.lil_forms.specs.{declared.arguments.Handed.Handed, Properties.Property, Scopes.{Fits, both_left}, Soundness.soundness, StatementSound.{StatementSound, made_sound}, Statements.{nothing_handed, handed_over, requested, allocation, called}}
-use Rattle.lil_call.specs.{declared.{call.{Argument.Argument, Callee.Callee}, passing.Passed.Passed, routines.Invoked.Invoked}, Calls.{is_callable, heading_node, depth_node, passed_if, routine_mean, own_call, call_statement, no_call, of_procedure, of_variable, of_resident, value_of, statement_of, call_node, statement_node}}
+use Rattle.lil_forms.specs.{Properties.Property, Scopes.{Fits, both_left}, Soundness.soundness, StatementSound.{StatementSound, made_sound}, Statements.{argument_given, nothing_handed, handed_over, request, allocation, called}}
+use Rattle.lil_call.specs.{declared.{call.{Argument.Argument, Callee.Callee}, passing.Passed.Passed, routines.Invoked.Invoked}, Calls.{is_callable, heading_node, depth_node, is_resident, passed_if, routine_mean, own_call, call_statement, no_call, of_procedure, of_variable, of_resident, value_of, statement_of, call_node, statement_node}}
 use Rattle.lil_call.specs.Passing.{all_have_values, nothing_passed, with_argument, argument_node, argument_by, argument_step, arguments_mean}
 use Rattle.lil_call.specs.declared.call.Argument.TheVariants as argument
 use Rattle.lil_call.specs.declared.call.Callee.TheVariants as callee
-use Rattle.lil_right_type.specs.{Found.{IsFound, value, place, signature}, Parts.routine_is, Right.{Right, IsThere, IsAny, is_so, after_right}, Typed.kept_if, Types.IsTold}
-use Rattle.lil_right_call.specs.{Functions.function_right, Given.{IsTaken, string_there, value_there, address_there}, Procedures.procedure_right, Told.{ArgumentTold, CalleeTold, Calls}}
+use Rattle.lil_right_type.specs.{Found.{IsFound, ParameterTold, value, place, signature}, Parts.routine_is, Right.{Right, IsThere, is_so, after_right}, Typed.kept_if, Types.IsTold}
+use Rattle.lil_right_call.specs.{Functions.function_right, Given.{IsTaken, string_there, value_there, stored_there, address_there, argument_there}, Procedures.procedure_right, Told.{ArgumentTold, CalleeTold, parameter_shape, IsReached, Calls}}
+
+-- values that are all there have a first one
+pub record HasFirst {A : Type 0} (o : Option A) (os : List (Option A)) (xs : List A) : Type 0 where
+  pub value : A
+  pub rest : List A
+  pub is : o ≡ Some value
+  pub others : all_some os ≡ Some rest
+  pub all : xs ≡ value ∷ rest
+
+pub first_some : {A : Type 0} (o : Option A) (os : List (Option A)) (xs : List A) → all_some (o ∷ os) ≡ Some xs → HasFirst o os xs
+first_some None os xs h = absurd (none-some xs h)
+first_some (Some a) os xs h = let rest = mapped (λ rest. a ∷ rest) (all_some os) xs h in record { value = a; rest = rest.0; is = refl; others = rest.1; all = sym rest.2 }
 
 module _ {t : Table} {vs : RNamed → Option RVar} {around : List ℕ} (P : Property t vs around) (told : IsTold t) where
-  -- ---- the arguments of resident procedures
+  -- ---- arguments
   -- arguments that are handed over to parameters, one after another
-  abbrev Hands : List Parameter → Handed → Handed → Type 0
+  abbrev Hands : List Parameter → Option (List RArgument) → Option (List RArgument) → Type 0
   Hands [] h g = g ≡ h
   Hands (p ∷ ps) h g = (x : Found) × (given : IsFound P x) × (taken : IsTaken t p x) × Hands ps (handed_over t p h x) g
 
@@ -36,35 +48,35 @@ module _ {t : Table} {vs : RNamed → Option RVar} {around : List ℕ} (P : Prop
   abbrev AreNext : ℕ → ℕ → List Parameter → Type 0
   AreNext sort n ps = (i : ℕ) → parameter t sort (n + i) ≡ slice_get ps i
 
-  abbrev IsPassed : Parameter → Passed → Passed → Type 0
-  IsPassed p s e = (x : Found) × (given : IsFound P x) × (taken : IsTaken t p x) × (e ≡ with_argument t true p s x) × (e.is_right ≡ true)
+  abbrev IsPassed : Bool → Parameter → Passed → Passed → Type 0
+  IsPassed resident p s e = (x : Found) × (given : IsFound P x) × (taken : IsTaken t p x) × (e ≡ with_argument t resident p s x) × (e.is_right ≡ true)
 
-  step_right : (sort : ℕ) (p : Parameter) (s : Passed) (x : Argument) → parameter t sort (length s.parameters) ≡ Some p → s.is_right ≡ true → ArgumentTold P x → Right (IsPassed p s) (argument_step t true sort s x)
+  step_right : (resident : Bool) (sort : ℕ) (p : Parameter) (s : Passed) (x : Argument) → parameter t sort (length s.parameters) ≡ Some p → s.is_right ≡ true → ArgumentTold P x → Right (IsPassed resident p s) (argument_step t resident sort s x)
   unfolding argument_step argument_node
-  step_right sort p s (argument.Value None) is so h = absurd h
-  step_right sort p s (argument.Value (Some x)) is so h = subst (λ o. Right (IsPassed p s) (argument_by t true o s x)) (sym is) (λ clear. (
+  step_right resident sort p s (argument.Value None) is so h = absurd h
+  step_right resident sort p s (argument.Value (Some x)) is so h = subst (λ o. Right (IsPassed resident p s) (argument_by t resident o s x)) (sym is) (λ clear. (
     x,
     h,
     record { value = clear.0; place = clear.1.0; inside = clear.1.1.0 },
     refl,
     λ i. so i && (not (clear.0 i) && (not (clear.1.0 i) && not (clear.1.1.0 i))),
   ))
-  step_right sort p s (argument.Type at n) is so h = λ clear. absurd (true≢false clear.0)
+  step_right resident sort p s (argument.Type at n) is so h = λ clear. absurd (true≢false clear.0)
 
-  abbrev AllPassed : List Parameter → Handed → Passed → Type 0
+  abbrev AllPassed : List Parameter → Option (List RArgument) → Passed → Type 0
   AllPassed ps h e = (e.is_right ≡ true) × Hands ps h e.handed
 
-  arguments_right : (sort : ℕ) (ps : List Parameter) (s : Passed) (xs : List Argument) → AreNext sort (length s.parameters) ps → length ps ≡ length xs → s.is_right ≡ true → AllFine (ArgumentTold P) xs → Right (AllPassed ps s.handed) (arguments_mean t true sort s xs)
-  arguments_right sort [] s [] next count so all = λ clear. (so, refl)
-  arguments_right sort (p ∷ ps) s (x ∷ xs) next count so all =
-      after_right (IsPassed p s) (AllPassed (p ∷ ps) s.handed) (argument_step t true sort s x) (λ e. arguments_mean t true sort e xs) (step_right sort p s x (ap (parameter t sort) (omega arith) ∙ next 0) so all.0) (λ e g clear.
+  arguments_right : (resident : Bool) (sort : ℕ) (ps : List Parameter) (s : Passed) (xs : List Argument) → AreNext sort (length s.parameters) ps → length ps ≡ length xs → s.is_right ≡ true → AllFine (ArgumentTold P) xs → Right (AllPassed ps s.handed) (arguments_mean t resident sort s xs)
+  arguments_right resident sort [] s [] next count so all = λ clear. (so, refl)
+  arguments_right resident sort (p ∷ ps) s (x ∷ xs) next count so all =
+      after_right (IsPassed resident p s) (AllPassed (p ∷ ps) s.handed) (argument_step t resident sort s x) (λ e. arguments_mean t resident sort e xs) (step_right resident sort p s x (ap (parameter t sort) (omega arith) ∙ next 0) so all.0) (λ e g clear.
       let more : length e.parameters ≡ length s.parameters + 1 = ap (λ (e : Passed). length e.parameters) g.3 ∙ length_push s.parameters p in
-      let rest = arguments_right sort ps e xs (λ i. ap (parameter t sort) (omega (arith, more)) ∙ next (suc i)) (omega (arith, count)) g.4 all.1 clear in
-      (rest.0, (g.0, g.1, g.2, subst (λ h. Hands ps h (arguments_mean t true sort e xs).0.handed) (ap (λ (e : Passed). e.handed) g.3) rest.1)))
-  arguments_right sort _ s _ next count so all = absurd (omega (arith, count))
+      let rest = arguments_right resident sort ps e xs (λ i. ap (parameter t sort) (omega (arith, more)) ∙ next (suc i)) (omega (arith, count)) g.4 all.1 clear in
+      (rest.0, (g.0, g.1, g.2, subst (λ h. Hands ps h (arguments_mean t resident sort e xs).0.handed) (ap (λ (e : Passed). e.handed) g.3) rest.1)))
+  arguments_right resident sort _ s _ next count so all = absurd (omega (arith, count))
 
-  abbrev IsHanded : Resident → Passed → Type 0
-  IsHanded r e = Hands (signature r) nothing_handed e.handed
+  abbrev IsHanded : List Parameter → Passed → Type 0
+  IsHanded ps e = Hands ps nothing_handed e.handed
 
   have_values : (xs : List Argument) → AllFine (ArgumentTold P) xs → all_have_values xs ≡ true
   have_values [] h = refl
@@ -90,34 +102,17 @@ module _ {t : Table} {vs : RNamed → Option RVar} {around : List ℕ} (P : Prop
     no_routine : (wanted : Bool) (s : ℕ) → lies_at t s ≡ true → is_callable t wanted s ≡ false
     no_routine wanted s lies = and_left (is_routine t s) _ (false_from_ne_true (is_routine t s) (λ is. true≢false (sym lies ∙ routine_is t told s is)))
 
-    passed_right : (r : Resident) (s : ℕ) (xs : List Argument) → parameters t s ≡ signature r → AllFine (ArgumentTold P) xs → Right (IsThere (IsHanded r)) (routine_mean t p false (of_resident r s) xs)
+    passed_right : (v : Invoked) (ps : List Parameter) (xs : List Argument) → parameters t v.sort ≡ ps → AllFine (ArgumentTold P) xs → Right (IsThere (IsHanded ps)) (routine_mean t p false v xs)
     unfolding parameter arity depth_node
-    passed_right r s xs is all =
-        after_right (λ c. (c ≡ true) × (is_callable t false s ≡ true) × (arity t s ≡ length xs)) (IsThere (IsHanded r)) _ (passed_if t p (of_resident r s) xs) (heading_right false s (length xs)) (λ c h.
-        subst (λ c. Right (IsThere (IsHanded r)) (passed_if t p (of_resident r s) xs c)) (sym h.0) (
-        after_right (AllPassed (signature r) nothing_handed) (IsThere (IsHanded r)) _ (depth_node p)
-        (arguments_right s (signature r) (nothing_passed 1) xs (λ i. ap (slice_get (parameters t s)) (omega arith) ∙ ap (λ ps. slice_get ps i) is) (sym (ap length is) ∙ h.2) refl all)
-        (λ e g clear. kept_if (IsHanded r) _ e (λ i. g.0 i && not (clear.0 i)) g.1)))
-
-    -- a procedure without parameters has no arguments
-    none_passed : Right (IsThere IsAny) (depth_node p (nothing_passed 1))
-    unfolding depth_node
-    none_passed clear = tt
-
-    own_passed : (s n levels : ℕ) (ys : List Argument) → length ys ≡ 0 → Right (IsThere IsAny) (passed_if t p (of_procedure s n levels) ys true)
-    own_passed s n levels [] none =
-        after_right (λ (e : Passed). e ≡ nothing_passed 1) (IsThere IsAny) (arguments_mean t false s (nothing_passed 1) []) (depth_node p) (λ clear. refl)
-        (λ e same. subst (λ (e : Passed). Right (IsThere IsAny) (depth_node p e)) (sym same) none_passed)
-    own_passed s n levels (y ∷ ys) none = absurd (omega (arith, none))
-
-    own_right : (s n levels : ℕ) (xs : List Argument) → parameters t s ≡ [] → Right (IsThere IsAny) (routine_mean t p false (of_procedure s n levels) xs)
-    unfolding arity
-    own_right s n levels xs is =
-        after_right (λ c. (c ≡ true) × (is_callable t false s ≡ true) × (arity t s ≡ length xs)) (IsThere IsAny) _ (passed_if t p (of_procedure s n levels) xs) (heading_right false s (length xs)) (λ c h.
-        subst (λ c. Right (IsThere IsAny) (passed_if t p (of_procedure s n levels) xs c)) (sym h.0) (own_passed s n levels xs (sym h.2 ∙ ap length is)))
+    passed_right v ps xs is all =
+        after_right (λ c. (c ≡ true) × (is_callable t false v.sort ≡ true) × (arity t v.sort ≡ length xs)) (IsThere (IsHanded ps)) _ (passed_if t p v xs) (heading_right false v.sort (length xs)) (λ c h.
+        subst (λ c. Right (IsThere (IsHanded ps)) (passed_if t p v xs c)) (sym h.0) (
+        after_right (AllPassed ps nothing_handed) (IsThere (IsHanded ps)) _ (depth_node p)
+        (arguments_right (is_resident v.target) v.sort ps (nothing_passed v.depth) xs (λ i. ap (slice_get (parameters t v.sort)) (omega arith) ∙ ap (λ ps. slice_get ps i) is) (sym (ap length is) ∙ h.2) refl all)
+        (λ e g clear. kept_if (IsHanded ps) _ e (λ i. g.0 i && not (clear.0 i)) g.1)))
 
     -- ---- calls that have values
-    value_right : (R : ℕ → ℕ → Type 0) (c : Callee) (xs : List Argument) → CalleeTold t R c → AllFine (ArgumentTold P) xs → Right (IsThere (IsFound P)) (value_of t p c xs)
+    value_right : (R : ℕ → ℕ → ℕ → Type 0) (c : Callee) (xs : List Argument) → CalleeTold t R c → AllFine (ArgumentTold P) xs → Right (IsThere (IsFound P)) (value_of t p c xs)
     unfolding no_call
     value_right R (callee.Procedure s n levels) xs h all = uncalled (IsThere (IsFound P)) true (of_procedure s n levels) xs _ (and_right (is_routine t s) _ (ap is_some h.0.1))
     value_right R (callee.Variable s d) xs h all = uncalled (IsThere (IsFound P)) true (of_variable s d) xs _ (no_routine true s h)
@@ -125,7 +120,7 @@ module _ {t : Table} {vs : RNamed → Option RVar} {around : List ℕ} (P : Prop
     value_right R (callee.Standard of) xs h all = function_right P told p of xs all
     value_right R callee.Other xs h all = λ clear. absurd (true≢false clear.0)
 
-  pub call_node_right : (R : ℕ → ℕ → Type 0) (p : Place) (c : Option Callee) (xs : List Argument) → IsThere (CalleeTold t R) c → AllFine (ArgumentTold P) xs → Right (IsThere (IsFound P)) (call_node t p c xs)
+  pub call_node_right : (R : ℕ → ℕ → ℕ → Type 0) (p : Place) (c : Option Callee) (xs : List Argument) → IsThere (CalleeTold t R) c → AllFine (ArgumentTold P) xs → Right (IsThere (IsFound P)) (call_node t p c xs)
   unfolding call_node
   call_node_right R p None xs h all = absurd h
   call_node_right R p (Some c) xs h all = subst (λ b. Right (IsThere (IsFound P)) (if b then value_of t p c xs else (None, []))) (sym (have_values xs all)) (value_right p R c xs h all)
@@ -138,67 +133,108 @@ module _ {t : Table} {vs : RNamed → Option RVar} {around : List ℕ} {ts : Sco
   abbrev IsDone : Option RStmt → Type 0
   IsDone o = IsThere (StatementSound ts looping) o
 
-  requested_there : (r : requests.Request) (xs : List RArgument) (h : Handed) → h.arguments ≡ Some xs → request_parameters r ≡ map parameter_of (map argument_of xs) → AreSoundArguments ts (map argument_of xs) → IsDone (requested r h.arguments)
-  requested_there r xs h is same all = subst (λ o. IsDone (requested r o)) (sym is) (made_sound ts looping _ _ (request_is r xs) (same, all))
+  -- arguments that are all there, of which a statement is made
+  abbrev IsMade : (Option (List RArgument) → Option RStmt) → Option (List RArgument) → Type 0
+  IsMade f h = (xs : List RArgument) × (h ≡ Some xs) × IsDone (f (Some xs))
+
+  along : (f : Option (List RArgument) → Option RStmt) (h : Option (List RArgument)) → IsMade f h → IsDone (f h)
+  along f h made = subst (λ h. IsDone (f h)) (sym made.1) made.2
+
+  requested_there : (r : requests.Request) (xs : List RArgument) → request_parameters r ≡ map (parameter_of ts) (map argument_of xs) → AreSoundArguments ts (map argument_of xs) → IsDone (request (Some r) xs)
+  requested_there r xs same all = made_sound ts looping _ _ (request_is r xs) (record { takes = same; sound = all })
 
   -- the number to be written, and its width
-  number_called : (r : requests.Request) (s : ℕ) (k : RBase) → kind_at t s ≡ Some (plain k) → is_ordinal (base_view k) ≡ true → request_parameters r ≡ Single (base_view k) ∷ Single (base_view b.Cardinal) ∷ []
-      → (h : Handed) → Hands P told (value s ∷ value cardinal ∷ []) nothing_handed h → IsDone (requested r h.arguments)
+  number_given : (r : requests.Request) (s : ℕ) (k : RBase) → kind_at t s ≡ Some (plain k) → request_parameters r ≡ Word (base_view k) ∷ Word (base_view b.Cardinal) ∷ []
+      → (h : Option (List RArgument)) → Hands P told (value s ∷ value cardinal ∷ []) nothing_handed h → (xs : List RArgument) × (h ≡ Some xs) × IsDone (request (Some r) xs)
   unfolding handed_over
-  number_called r s k at of same h all =
-      let x = value_there fits told all.0 all.1 s k at of all.2 in
-      let y = value_there fits told all.3.0 all.3.1 cardinal b.Cardinal refl refl all.3.2 in
-      requested_there r (given.Value (plain k) x.0 ∷ given.Value (plain b.Cardinal) y.0 ∷ []) h (ap (λ (h : Handed). h.arguments) all.3.3 ∙ (λ i. joined (joined (Some []) (x.1 i)) (y.1 i))) same (x.2, (y.2, tt))
+  number_given r s k at same h all =
+      let x = stored_there fits told all.0 all.1 s (plain k) at all.2 in
+      let y = stored_there fits told all.3.0 all.3.1 cardinal (plain b.Cardinal) refl all.3.2 in
+      let xs : List RArgument = given.Value (plain k) x.0 ∷ given.Value (plain b.Cardinal) y.0 ∷ [] in
+      (xs, all.3.3 ∙ (λ i. joined (joined (Some []) (x.1 i)) (y.1 i)), requested_there r xs same (x.2, (y.2, tt)))
 
-  allocation_called : (way : Allocation) (h : Handed) → Hands P told (place address ∷ value cardinal ∷ []) nothing_handed h → IsDone (allocation way h)
+  allocation_given : (way : Allocation) (h : Option (List RArgument)) → Hands P told (place address ∷ value cardinal ∷ []) nothing_handed h → (xs : List RArgument) × (h ≡ Some xs) × IsDone (allocation way xs)
   unfolding handed_over
-  allocation_called way h all =
+  allocation_given way h all =
       let c = address_there fits told all.0 all.1 all.2 in
       let y = value_there fits told all.3.0 all.3.1 cardinal b.Cardinal refl refl all.3.2 in
-      subst (λ h. IsDone (allocation way h)) (sym (all.3.3 ∙ (λ i. record { places = joined (Some []) (c.1 i); arguments = joined (Some []) (y.1 i) })))
-      (made_sound ts looping _ _ (allocate_is way c.0.place y.0) (c.2, y.2))
+      (given.Place c.0 ∷ given.Value (plain b.Cardinal) y.0 ∷ [], all.3.3 ∙ (λ i. joined (joined (Some []) (c.1 i)) (y.1 i)), made_sound ts looping _ _ (allocate_is way c.0 y.0) (c.2, y.2))
 
-  resident_called : (r : Resident) (h : Handed) → resident_built r ≡ true → Hands P told (signature r) nothing_handed h → IsDone (called r h)
+  resident_called : (r : Resident) (h : Option (List RArgument)) → resident_built r ≡ true → Hands P told (signature r) nothing_handed h → IsDone (called r h)
   unfolding called handed_over
   resident_called resident.Write h is all =
-      let x = value_there fits told all.0 all.1 char b.Character refl refl all.2 in
-      requested_there q.Write (given.Value (plain b.Character) x.0 ∷ []) h (ap (λ (h : Handed). h.arguments) all.3 ∙ ap (joined (Some [])) x.1) refl (x.2, tt)
+      let x = stored_there fits told all.0 all.1 char (plain b.Character) refl all.2 in
+      let xs : List RArgument = given.Value (plain b.Character) x.0 ∷ [] in
+      along (called resident.Write) h (xs, all.3 ∙ ap (joined (Some [])) x.1, requested_there q.Write xs refl (x.2, tt))
   resident_called resident.WriteString h is all =
       let x = string_there fits told all.0 all.1 all.2 in
-      requested_there q.WriteString (x.0 ∷ []) h (ap (λ (h : Handed). h.arguments) all.3 ∙ ap (joined (Some [])) x.1) (λ i. sym x.2.0 i ∷ []) (x.2.1, tt)
-  resident_called resident.WriteLn h is all = requested_there q.WriteLn [] h (ap (λ (h : Handed). h.arguments) all) refl tt
-  resident_called resident.WriteCard h is all = number_called q.WriteCard cardinal b.Cardinal refl refl refl h all
-  resident_called resident.WriteInt h is all = number_called q.WriteInt integer b.Integer refl refl refl h all
-  resident_called resident.WriteOct h is all = number_called q.WriteOct cardinal b.Cardinal refl refl refl h all
-  resident_called resident.WriteHex h is all = number_called q.WriteHex cardinal b.Cardinal refl refl refl h all
-  resident_called resident.Allocate h is all = allocation_called Takes h all
-  resident_called resident.Deallocate h is all = allocation_called GivesBack h all
+      along (called resident.WriteString) h (x.0 ∷ [], all.3 ∙ ap (joined (Some [])) x.1, requested_there q.WriteString (x.0 ∷ []) (λ i. sym x.2.0 i ∷ []) (x.2.1, tt))
+  resident_called resident.WriteLn h is all = along (called resident.WriteLn) h ([], all, requested_there q.WriteLn [] refl tt)
+  resident_called resident.WriteCard h is all = along (called resident.WriteCard) h (number_given q.WriteCard cardinal b.Cardinal refl refl h all)
+  resident_called resident.WriteInt h is all = along (called resident.WriteInt) h (number_given q.WriteInt integer b.Integer refl refl h all)
+  resident_called resident.WriteOct h is all = along (called resident.WriteOct) h (number_given q.WriteOct cardinal b.Cardinal refl refl h all)
+  resident_called resident.WriteHex h is all = along (called resident.WriteHex) h (number_given q.WriteHex cardinal b.Cardinal refl refl h all)
+  resident_called resident.Allocate h is all = along (called resident.Allocate) h (allocation_given Takes h all)
+  resident_called resident.Deallocate h is all = along (called resident.Deallocate) h (allocation_given GivesBack h all)
   resident_called _ h is all = cc
 
-  own_called : (n levels : ℕ) → (n < 255) × ((levels < 256) × MayCall ts (n + 1) levels) → IsDone (own_call n levels)
-  own_called n levels h =
-      let fits : (nat_lt n 255 && nat_lt levels 256) ≡ true = grind (arith, nat_tests, h.0, h.1.0) in
-      subst (λ c. IsDone (if c then Some (statement.Call (n + 1) levels) else None)) (sym fits) (made_sound ts looping _ _ (call_is (n + 1) levels) h.1.1)
+  -- ---- calls of procedures of the text
+  -- what is handed over to parameters, behind what was before: it is sound, and of the shapes of their variables
+  record AreGiven (xs : List Shape) (before : List RArgument) (h : Option (List RArgument)) : Type 0 where
+    added : List RArgument
+    is : h ≡ Some (before ++ added)
+    takes : xs ≡ map (parameter_of ts) (map argument_of added)
+    sound : AreSoundArguments ts (map argument_of added)
+    single : AreSingle (map argument_of added)
 
-  statement_right : (R : ℕ → ℕ → Type 0) → Calls R ts → (p : Place) (c : Callee) (xs : List Argument) → CalleeTold t R c → AllFine (ArgumentTold P) xs → Right (IsThere (StatementSound ts looping)) (statement_of t p c xs)
+  handed_one : (p : Parameter) (before : List RArgument) (x : Found) (a : RArgument) → argument_given t p x ≡ Some a → handed_over t p (Some before) x ≡ Some (before ++ a ∷ [])
+  unfolding handed_over
+  handed_one p before x a is = ap (joined (Some before)) is
+
+  given_there : (ps : List Parameter) (xs : List Shape) (before : List RArgument) (h : Option (List RArgument)) → AllFine (ParameterTold t) ps → all_some (map (parameter_shape fits.shapes) ps) ≡ Some xs → Hands P told ps (Some before) h → AreGiven xs before h
+  given_there [] xs before h of lies all = record { added = []; is = all ∙ ap Some (sym (append-nil before)); takes = sym (same_Some [] xs lies); sound = tt; single = tt }
+  given_there (p ∷ ps) xs before h of lies all =
+      let first = first_some (parameter_shape fits.shapes p) (map (parameter_shape fits.shapes) ps) xs lies in
+      let a = argument_there fits told all.0 all.1 p first.value of.0 first.is all.2 in
+      let rest = given_there ps first.rest (before ++ a.argument ∷ []) h of.1 first.others (subst (λ o. Hands P told ps o h) (handed_one p before all.0 a.argument a.is) all.3) in
+      record {
+        added = a.argument ∷ rest.added;
+        is = rest.is ∙ ap Some (append_assoc before (a.argument ∷ []) rest.added);
+        takes = first.all ∙ (λ i. a.shape i ∷ rest.takes i);
+        sound = (a.sound, rest.sound);
+        single = (a.single, rest.single);
+      }
+
+  own_called : (s n levels : ℕ) (h : Option (List RArgument)) → AllFine (ParameterTold t) (parameters t s) → IsReached t ts s n levels → Hands P told (parameters t s) nothing_handed h → IsDone (own_call n levels h)
+  own_called s n levels h of r all =
+      let g = given_there (parameters t s) (parameters_of (procedure_by ts.procedures (n + 1))) [] h of (r.takes fits.shapes fits.types) all in
+      let fit : (nat_lt n 255 && nat_lt levels 256) ≡ true = grind (arith, nat_tests, r.low, r.few) in
+      along (own_call n levels) h (
+        g.added,
+        g.is,
+        subst (λ c. IsDone (if c then Some (statement.Call (n + 1) levels g.added) else None)) (sym fit)
+            (made_sound ts looping _ _ (call_is (n + 1) levels g.added) (r.may, record { takes = g.takes; sound = g.sound }, g.single)),
+      )
+
+  statement_right : (R : ℕ → ℕ → ℕ → Type 0) → Calls t R ts → (p : Place) (c : Callee) (xs : List Argument) → CalleeTold t R c → AllFine (ArgumentTold P) xs → Right (IsThere (StatementSound ts looping)) (statement_of t p c xs)
   unfolding no_call
   statement_right R calls p (callee.Procedure s n levels) xs h all =
-      after_right (IsThere IsAny) IsDone (routine_mean t p false (of_procedure s n levels) xs) _ (own_right P told p s n levels xs h.0.0) by
+      after_right (IsThere (IsHanded P told (parameters t s))) IsDone (routine_mean t p false (of_procedure s n levels) xs) _ (passed_right P told p (of_procedure s n levels) (parameters t s) xs refl all) by
     where
-      by : (o : Option Passed) → IsThere IsAny o → Right IsDone (call_statement (of_procedure s n levels) o, [])
+      by : (o : Option Passed) → IsThere (IsHanded P told (parameters t s)) o → Right IsDone (call_statement (of_procedure s n levels) o, [])
       by None j = absurd j
-      by (Some e) j = λ clear. own_called n levels (calls n levels h.1)
+      by (Some e) j = λ clear. own_called s n levels e.handed h.0.0 (calls s n levels h.1) j
   statement_right R calls p (callee.Variable s d) xs h all = uncalled P told p IsDone false (of_variable s d) xs _ (no_routine P told p false s h)
   statement_right R calls p (callee.Resident r s) xs h all =
-      after_right (IsThere (IsHanded P told r)) IsDone (routine_mean t p false (of_resident r s) xs) _ (passed_right P told p r s xs h.0 all) by
+      after_right (IsThere (IsHanded P told (signature r))) IsDone (routine_mean t p false (of_resident r s) xs) _ (passed_right P told p (of_resident r s) (signature r) xs h.0 all) by
     where
-      by : (o : Option Passed) → IsThere (IsHanded P told r) o → Right IsDone (call_statement (of_resident r s) o, [])
+      by : (o : Option Passed) → IsThere (IsHanded P told (signature r)) o → Right IsDone (call_statement (of_resident r s) o, [])
       by None j = absurd j
       by (Some e) j = λ clear. resident_called r e.handed h.2 j
   statement_right R calls p (callee.Standard of) xs h all = procedure_right fits told looping p of xs all
   statement_right R calls p callee.Other xs h all = λ clear. absurd (true≢false clear.0)
 
-  pub statement_node_right : (R : ℕ → ℕ → Type 0) → Calls R ts → (p : Place) (c : Option Callee) (xs : List Argument) → IsThere (CalleeTold t R) c → AllFine (ArgumentTold P) xs → Right (IsThere (StatementSound ts looping)) (statement_node t p c xs)
+  pub statement_node_right : (R : ℕ → ℕ → ℕ → Type 0) → Calls t R ts → (p : Place) (c : Option Callee) (xs : List Argument) → IsThere (CalleeTold t R) c → AllFine (ArgumentTold P) xs → Right (IsThere (StatementSound ts looping)) (statement_node t p c xs)
   unfolding statement_node
   statement_node_right R calls p None xs h all = absurd h
   statement_node_right R calls p (Some c) xs h all = subst (λ b. Right IsDone (if b then statement_of t p c xs else (None, []))) (sym (have_values P told xs all)) (statement_right R calls p c xs h all)

@@ -1,23 +1,24 @@
--- What calls of resident procedures are handed: each argument is there and sound, as its parameter says.
-use Rattle.std.proofs.Common.{◌≡◌, ℕ, suc, ◌+◌, ◌≤◌, true, false, not, ◌||◌, List, Option, Some, None, if◌then◌else◌, refl, sym, ap, subst, ◌∙◌, arith, true≢false}
+-- What calls are handed: each argument is there and sound, as its parameter says.
+use Rattle.std.proofs.Common.{◌≡◌, ℕ, suc, ◌+◌, ◌≤◌, Bool, true, false, not, ◌||◌, List, slice_get, Option, Some, None, if◌then◌else◌, refl, sym, ap, subst, ◌∙◌, arith, true≢false}
 use Rattle.std.specs.Prelude.{ℤ, pos, negsuc, ◌≤ℤ◌, ◌+ℤ◌, ◌-ℤ◌, ◌==◌, ◌&&◌, nat_le}
 use Rattle.std.specs.Option.{option_map}
-use Rattle.std.proofs.lemmas.{Int.ints, Option.none-some, Bool.Decides.nat_tests}
+use Rattle.std.proofs.lemmas.{Int.ints, Option.{none-some, same_Some}, Bool.Decides.nat_tests}
 use Rattle.lil_types.specs.{Types.{Table, char, address, meant, same}, declared.table.Parameter.Parameter}
 use Rattle.lil_declared.specs.declared.declared.RVar.{RVar}
 use Rattle.lil_resolved.specs.Kinds as kinds
-use Rattle.lil_resolved.specs.{Kinds.{Scope, OfPointer, Workspaces, nat_of}, Sizes.{place_depth, depth}, Sound.{Characters, parameter_of, IsSoundArgument, IsSoundTarget, IsSoundValue, IsSoundWhole}, Views.{argument_of, base_view, kind_view, expression_of, place_of}, declared.resolved.{RArgument.RArgument, RBase.RBase, RExpr.RExpr, RKind.RKind, RNamed.RNamed}}
+use Rattle.lil_resolved.specs.{Kinds.{Shape, Word, Address, Opened, OfCharacter, Scope, OfPointer, Workspaces, nat_of, is_there}, Resolved.shape_of, Sizes.{place_depth, depth}, Sound.{parameter_of, IsSingle, IsSoundArgument, IsSoundStored, IsSoundTarget, IsSoundValue, IsSoundWhole}, Views.{argument_of, base_view, held_by, kind_view, expression_of, place_of}, declared.resolved.{RArgument.RArgument, RBase.RBase, RExpr.RExpr, RKind.RKind, RNamed.RNamed, RPassing.TheVariants.{ByValue, ByPlace}, RPlace.RPlace}}
 use Rattle.lil_resolved.specs.declared.resolved.RArgument.TheVariants as given
 use Rattle.lil_resolved.specs.declared.resolved.RBase.TheVariants as b
-use Rattle.lil_shapes.specs.{BaseLaws.{same_sort, kind_base}, Bases.{plain, base_at, kind_at, numbers_of, characters_in, characters_at}}
+use Rattle.lil_shapes.specs.{BaseLaws.{same_sort, kind_base}, Bases.{plain, base_at, kind_at, numbers_of, characters_in, characters_at}, ShapeSound.{mapped, word_shaped}, Shaping.there}
 use Rattle.lil_scope.specs.declared.thing.Kind.{Kind}
 use Rattle.lil_scope.specs.declared.thing.Kind.TheVariants as k
 use Rattle.lil_kinds.specs.{Forms.array_parts, declared.{forms.ArrayParts.ArrayParts, found.{Form.Form, Found.Found, Located.Located}}}
 use Rattle.lil_kinds.specs.declared.found.Form.TheVariants as form
-use Rattle.lil_forms.specs.{declared.places.Cell.Cell, Places.cell, Properties.{Property, value_kind}, Scopes.{Fits, both_left, both_right}, Soundness.{soundness, Lies, characters_lie}, Statements.{last_of, array_as, array_given, string_given, value_as, value_by, located_in, argument_given}, Values.typed}
+use Rattle.lil_forms.specs.{Properties.{Property, value_kind}, Scopes.{Fits, has_shape, both_left, both_right}, Soundness.{soundness, Lies, characters_lie}, Statements.{last_of, array_as, array_given, string_given, value_as, value_by, located_in, place_given, argument_given}, Values.typed}
+use Rattle.lil_forms.specs.Soundness as forms
 use Rattle.lil_call.specs.Passing.{has_elements, is_array_of, is_of, is_open, is_text, is_variable, is_wrong_value, is_wrong_place, is_outside}
-use Rattle.lil_right_type.specs.{Found.{KindTold, LiesAt, GoesWith, IsFound, value, place}, Parts.{IsArray, no_kind, array_is}, Right.{IsThere, is_so}, Typed.{Suits, assignable_stores, stores_suits}, Types.{IsTold, IsOrdinal, meant_is, known_ordinal}}
-use Rattle.lil_right_call.specs.{Functions.number_bounds, Places.{IsVariable, variable_is, cell_is, target_sound}}
+use Rattle.lil_right_type.specs.{Found.{KindTold, LiesAt, GoesWith, IsFound, ParameterTold, value, place}, Parts.{IsArray, no_kind, array_is}, Right.{IsThere, is_so}, Sound.stored_sound, Typed.{Suits, Stores, assignable_stores, stores_suits}, Types.{IsTold, IsOrdinal, meant_is, known_ordinal}}
+use Rattle.lil_right_call.specs.{Functions.number_bounds, Places.{IsVariable, variable_is, target_sound}, Told.parameter_shape}
 
 -- what the tests of an argument leave
 pub record IsTaken (t : Table) (p : Parameter) (x : Found) : Type 0 where
@@ -46,7 +47,7 @@ module _ {t : Table} {vs : RNamed → Option RVar} {around : List ℕ} {ts : Sco
   module _ (told : IsTold t) where
     -- ---- strings
     abbrev IsString : RArgument → Type 0
-    IsString a = (parameter_of (argument_of a) ≡ Characters) × IsSoundArgument ts (argument_of a)
+    IsString a = (parameter_of ts (argument_of a) ≡ Opened (Word OfCharacter)) × IsSoundArgument ts (argument_of a)
 
     -- an array of so many characters has a last one
     last_there : (q : Located) (z : ℤ) → pos 0 ≤ℤ z → z ≤ℤ pos 65535 → characters_at t q.sort ≡ Some (nat_of (z +ℤ pos 1)) → Lies fits q → place_depth (place_of q.place) ≤ 13 → IsThere IsString (array_given t q)
@@ -88,16 +89,61 @@ module _ {t : Table} {vs : RNamed → Option RVar} {around : List ℕ} {ts : Sco
       pub string_there : IsTaken t (open_array char) x → (a : RArgument) × (argument_given t (open_array char) x ≡ Some a) × IsString a
       string_there taken = there_is IsString (string_given t x.form) (string_by x.depth x.kind x.form h.few h.kind h.form (is_so _ taken.value))
 
-      -- ---- values and addresses
+      -- ---- values
       pub value_there : (s : ℕ) (k : RBase) → kind_at t s ≡ Some (plain k) → kinds.is_ordinal (base_view k) ≡ true → IsTaken t (value s) x
           → (y : RExpr) × (argument_given t (value s) x ≡ Some (given.Value (plain k) y)) × IsSoundValue ts (expression_of y) (base_view k)
       value_there s k at of taken =
           let y = there_is (Suits P (plain k) x.depth) (typed t s x) (stores_suits P (plain k) x.depth (typed t s x) of (assignable_stores P told s (plain k) x at h (both_right (not (is_open x.kind)) _ (is_so _ taken.value)) taken.inside)) in
           (y.0, ap (λ o. value_by t s o x) at ∙ ap (value_as (plain k)) y.1, suited (plain k) x.depth y.0 h.few y.2)
 
-      pub address_there : IsTaken t (place address) x → (c : Cell) × (cell t (located_in x.form) ≡ Some c) × IsSoundTarget ts (place_of c.place) (OfPointer Workspaces)
-      address_there taken =
-          let so = is_so (is_variable x.standing && is_of t address x.kind) taken.place in
+      -- one that may be stored where one of a kind is wanted
+      pub stored_there : (s : ℕ) (j : RKind) → kind_at t s ≡ Some j → IsTaken t (value s) x → (y : RExpr) × (argument_given t (value s) x ≡ Some (given.Value j y)) × IsSoundStored ts (expression_of y) (kind_view j)
+      stored_there s j at taken =
+          let y = there_is (Stores P j x.depth) (typed t s x) (assignable_stores P told s j x at h (both_right (not (is_open x.kind)) _ (is_so _ taken.value)) taken.inside) in
+          (y.0, ap (λ o. value_by t s o x) at ∙ ap (value_as j) y.1, stored_sound fits x.depth h.few j y.0 y.2)
+
+      -- ---- places
+      place_there : (s : ℕ) → IsTaken t (place s) x → (v : IsVariable P x) × (v.sort ≡ s) × (argument_given t (place s) x ≡ Some (given.Place v.at.place))
+      place_there s taken =
+          let so = is_so (is_variable x.standing && is_of t s x.kind) taken.place in
           let v : IsVariable P x = variable_is P x h (both_left (is_variable x.standing) _ so) in
-          let sort : v.sort ≡ address = sym (meant_is t told v.sort) ∙ same_sort (meant t v.sort) address (sym (ap (is_of t address) v.kind) ∙ both_right (is_variable x.standing) _ so) in
-          (_, cell_is P x v (plain b.Address) (ap (kind_at t) sort), target_sound fits x v (plain b.Address) (ap (kind_at t) sort))
+          (v, sym (meant_is t told v.sort) ∙ same_sort (meant t v.sort) (meant t s) (sym (ap (is_of t s) v.kind) ∙ both_right (is_variable x.standing) _ so) ∙ meant_is t told s, ap (λ f. place_given (located_in f)) v.form)
+
+      pub address_there : IsTaken t (place address) x → (q : RPlace) × (argument_given t (place address) x ≡ Some (given.Place q)) × IsSoundTarget ts (place_of q) (OfPointer Workspaces)
+      address_there taken = let v = place_there address taken in (v.0.at.place, v.2, target_sound fits x v.0 (plain b.Address) (ap (kind_at t) v.1))
+
+      -- ---- arguments for the parameters of procedures, whose variables hold this
+      pub record IsArgument (p : Parameter) (y : Shape) : Type 0 where
+        pub argument : RArgument
+        pub is : argument_given t p x ≡ Some argument
+        pub shape : y ≡ parameter_of ts (argument_of argument)
+        pub sound : IsSoundArgument ts (argument_of argument)
+        pub single : IsSingle (argument_of argument)
+
+      value_argument : (s : ℕ) (j : RKind) (y : Shape) → kind_at t s ≡ Some j → parameter_shape fits.shapes (value s) ≡ Some y → IsTaken t (value s) x → IsArgument (value s) y
+      value_argument s j y at lies taken =
+          let v = stored_there s j at taken in
+          let held = mapped (held_by ByValue) (there (slice_get fits.shapes s)) y lies in
+          let here = forms.there_is (slice_get fits.shapes s) held.0 held.1 in
+          record { argument = given.Value j v.0; is = v.1; shape = sym held.2 ∙ word_shaped t fits.shapes s held.0 (has_shape fits s held.0 here.0) j at; sound = v.2; single = tt }
+
+      place_argument : (s : ℕ) (y : Shape) → parameter_shape fits.shapes (place s) ≡ Some y → IsTaken t (place s) x → IsArgument (place s) y
+      place_argument s y lies taken =
+          let v = place_there s taken in
+          let at = v.0.at in
+          let held = mapped (held_by ByPlace) (there (slice_get fits.shapes s)) y lies in
+          let here = forms.there_is (slice_get fits.shapes s) held.0 held.1 in
+          let same : held.0 ≡ shape_of ts (place_of at.place) = same_Some held.0 (shape_of ts (place_of at.place)) (sym here.0 ∙ ap (slice_get fits.shapes) (sym (v.0.same ∙ v.1)) ∙ v.0.good.shape) in
+          record { argument = given.Place at.place; is = v.2; shape = sym held.2 ∙ ap Address same; sound = record { there = sym (ap is_there same) ∙ here.1; place = v.0.good.good; shallow = v.0.deep }; single = tt }
+
+      pub argument_there : (p : Parameter) (y : Shape) → ParameterTold t p → parameter_shape fits.shapes p ≡ Some y → IsTaken t p x → IsArgument p y
+      argument_there p y of lies taken = by p.by_place refl
+        where
+          by : (c : Bool) → p.by_place ≡ c → IsArgument p y
+          by true is =
+              let same : p ≡ place p.sort = λ i. record { by_place = is i; open_array = of.closed i; sort = p.sort } in
+              subst (λ (q : Parameter). IsArgument q y) (sym same) (place_argument p.sort y (subst (λ (q : Parameter). parameter_shape fits.shapes q ≡ Some y) same lies) (subst (λ (q : Parameter). IsTaken t q x) same taken))
+          by false is =
+              let same : p ≡ value p.sort = λ i. record { by_place = is i; open_array = of.closed i; sort = p.sort } in
+              let kind = of.single is in
+              subst (λ (q : Parameter). IsArgument q y) (sym same) (value_argument p.sort kind.0 y kind.1 (subst (λ (q : Parameter). parameter_shape fits.shapes q ≡ Some y) same lies) (subst (λ (q : Parameter). IsTaken t q x) same taken))

@@ -1,27 +1,30 @@
--- Headings in which no test finds a fault: a procedure without parameters, and what is declared inside of it.
-use Rattle.std.proofs.Common.{◌≡◌, ℕ, ◌+◌, ◌<◌, false, not, ◌||◌, List, [], ◌∷◌, ◌++◌, length, slice_get, Option, Some, None, refl, sym, ap, subst, ◌∙◌, arith, true≢false, length-append}
-use Rattle.std.specs.Prelude.{is_some, is_none}
-use Rattle.std.proofs.lemmas.{Bool.Decides.nat_tests, List.length_push}
+-- Headings in which no test finds a fault: a procedure with its parameters, and what is declared inside of it.
+use Rattle.std.proofs.Common.{◌≡◌, ℕ, ◌+◌, ◌<◌, Bool, true, false, List, [], ◌∷◌, ◌++◌, length, slice_get, Option, Some, None, IfSome, if◌then◌else◌, refl, sym, ap, subst, ◌∙◌, ⊎_elim, arith, true≢false, length-append}
+use Rattle.std.specs.Prelude.{is_none}
+use Rattle.std.specs.List.{list_any}
+use Rattle.std.proofs.lemmas.{Bool.{or_parts, Decides.nat_tests}, List.length_push, Option.slice_get_within}
 use Rattle.lil_text.specs.declared.tree.{Qualident.Qualident}
-use Rattle.lil_language.specs.declared.{tree.Stmt.Stmt, unit.{Heading.Heading, Section.Section}}
-use Rattle.lil_types.specs.{Types.{Table, entry}, Adding.{next, own, added, added_number}, declared.table.{Facts.Facts, TypeForm.TypeForm}}
+use Rattle.lil_language.specs.declared.{tree.Stmt.Stmt, unit.{Heading.Heading}}
+use Rattle.lil_types.specs.{Types.{Table, entry}, Adding.{next, own, added, added_number}, declared.table.{Facts.Facts, Parameter.Parameter, TypeForm.TypeForm}}
 use Rattle.lil_types.specs.declared.table.TypeForm.TheVariants as form
-use Rattle.lil_declared.specs.declared.declared.RProc.{RProc}
-use Rattle.lil_report.specs.Told.{Row, after, walk}
+use Rattle.lil_declared.specs.declared.declared.{RProc.RProc, RVar.RVar}
+use Rattle.lil_report.specs.Told.{after, walk}
 use Rattle.lil_kinds.specs.Forms.{parameters, result}
-use Rattle.lil_shapes.specs.{ListLaws.AllFine, ShapeSound.earlier}
+use Rattle.lil_shapes.specs.{ListLaws.AllFine, Pointers.lies_at, ShapeSound.{at_end, earlier}}
 use Rattle.lil_forms.specs.Scopes.{fine_more}
-use Rattle.lil_scope.specs.{Names.{bind, bind_at, bound_at, inside, entered, outside, level}, declared.{env.Env.Env, thing.{Entry.Entry}}}
+use Rattle.lil_scope.specs.{Names.{Names, look_in, inner_or, block_by, block_at, find_in, bound, bound_at, bind_at, with_local, locals_in, inside, entered, outside, level, chain}, declared.{env.Env.Env, thing.{Entry.Entry, Thing.Thing, Variable.Variable}}}
+use Rattle.lil_scope.specs.declared.thing.Thing.TheVariants as thing
 use Rattle.lil_scope.specs.Names as names
-use Rattle.lil_check_value.specs.Looks.{not_built}
-use Rattle.lil_check_type.specs.{declared.named.NamedType.{NamedType, TheVariants.Absent}, Made.{Made, type_node, form_node}, Records.{no_parameters, result_means, procedure_form}}
-use Rattle.lil_check_decl.specs.{Decls.{Means, procedure_means}, Headings.{Headed, section_step, home_at, procedure_thing, with_procedure, numbered_node, named_means, is_empty, heading_means}}
+use Rattle.lil_check_value.specs.{Looks.{not_built}}
+use Rattle.lil_check_type.specs.{declared.routines.Parameters.Parameters, Made.{Made, type_node, form_node}, Records.{no_parameters, result_means, procedure_form}}
+use Rattle.lil_check_decl.specs.{Decls.{Means, procedure_means}, Headings.{Headed, section_step, home_at, procedure_thing, with_procedure, numbered_node, named_means, is_unbuilt, has_more, heading_means}}
 use Rattle.lil_check_stmt.specs.Texts.{Texts}
-use Rattle.lil_right_type.specs.{Right.{Right, after_right}, Homes.{Longer, homed_procedure, stands_stays, stands_inside}}
+use Rattle.lil_right_type.specs.{Right.{Right, after_right}, Found.{ParameterTold, HeadingTold, AreHeaded}, Homes.{HasPassing, IsHome, OnPath, IsParameter, Longer, last_locals, homed_procedure, stands_stays, stands_inside}}
 use Rattle.lil_right_type.specs.Homes as homes
-use Rattle.lil_right_value.specs.Names.{Told, bound_at_is}
-use Rattle.lil_right_sort.specs.{Growth.{Few, few_before, added_grown, added_entry, entry_below, entry_shape, shape_parameters, last_there, IsIn, AllLie, IsProper, Declared, declared_added}, Simple.Begun}
+use Rattle.lil_right_value.specs.Names.{Told, look_is, bound_at_is}
+use Rattle.lil_right_sort.specs.{Growth.{all_then, fine_at, Few, few_before, added_grown, grown_kept, added_entry, entry_below, entry_shape, parameter_stays, shape_parameters, last_there, IsIn, AllLie, AllHeaded, IsProper, Declared, declared_added}, Simple.{Begun, walk_keeps}}
 use Rattle.lil_right_decl.specs.Constants.{Behind}
+use Rattle.lil_right_decl.specs.Parameters.{local_same, paired_lie, paired_headed, all_built, k, with_parts, IsNamed, ArePassed, IsHeading, none_yet, section_right}
 
 -- ---- what is declared behind something, with the procedures of these texts, each of which has a block
 abbrev pub IsText : Option (List Stmt) → Type 0
@@ -76,101 +79,140 @@ pub record IsHeaded (e f : Env) : Type 0 where
   pub few : Few f.types → Few e.types
   pub told : Begun f
 
-abbrev proper : TypeForm
-proper = form.Procedure [] None
-
 module _ (e : Env) (begun : Begun e) (h : Heading) where
-  abbrev u : Table
-  u = added e.types (own e.types) proper
+  -- the procedure's type, behind these parameters
+  abbrev proper : Parameters → TypeForm
+  proper ps = form.Procedure ps.list None
 
-  abbrev k : ℕ
-  k = length e.scopes.blocks
-
-  -- the procedure's type is there
-  abbrev typed : Env
-  typed = record (names.begun e) { types = u }
-
-  record IsTyped (m : Made) : Type 0 where
-    env : m.0 ≡ typed
-    number : ℕ
-    some : m.1 ≡ Some number
-    given : added_number e.types proper ≡ Some number
+  abbrev u : Parameters → Table
+  u ps = added e.types (own e.types) (proper ps)
 
   -- the procedure of this type, whose name is bound
-  abbrev headed : ℕ → Env
-  headed n = with_procedure h.name.name k (Some n) (names.with_blocks typed (bound_at typed.scopes.blocks typed.scopes.inner h.name.name (names.entry (procedure_thing k (Some n) typed) h.name.place)))
+  abbrev headed : Parameters → List Names → List (List RVar) → ℕ → Env
+  headed ps bs ls n = with_procedure h.name.name (k e) (Some n) (names.with_blocks (record (with_parts e bs ls) { types = u ps }) (bound_at bs e.scopes.inner h.name.name (names.entry (procedure_thing (k e) (Some n) e) h.name.place)))
 
-  headed_told : (n : ℕ) → added_number e.types proper ≡ Some n → length e.procedures < 250 → Begun (headed n)
-  headed_told n given room few = record {
-    told = record {
-      types = d.told.types;
-      words = d.told.words;
-      names = bound_at_is (Told base) (e.scopes.blocks ++ [] ∷ []) e.scopes.inner h.name.name new (fine_more _ e.scopes.blocks [] d.told.names tt) heading;
-      homed = homed_procedure e.scopes.blocks e.procedures e.variables e.locals e.scopes.outer e.scopes.inner e.procedure d.told.homed d.told.stands room h.name.name n h.name.name new refl;
-      stands = stands_stays e.procedures (headed n).procedures (λ i q is. earlier e.procedures (its ∷ []) i q is) e.scopes.outer e.scopes.inner e.procedure (omega (arith, length_push e.procedures its)) d.told.stands;
-    };
-    residents = bound_at_is (IsIn u) (e.scopes.blocks ++ [] ∷ []) e.scopes.inner h.name.name new (fine_more _ e.scopes.blocks [] d.residents tt) below;
-    variables = (d.variables.0, fine_more (AllLie u) e.locals [] d.variables.1 tt);
-    proper = fine_more (IsProper u) e.procedures its d.proper (below, heading);
-  }
+  module _ (ps : Parameters) (bs : List Names) (ls : List (List RVar)) (n : ℕ) (given : added_number e.types (proper ps) ≡ Some n) (room : length e.procedures < 250) (few : Few (u ps)) (p : ArePassed e bs ls ps) (none : list_any (is_unbuilt e.types) ps.list ≡ false) where
+    before : Declared e
+    before = begun (few_before e.types (u ps) (added_grown e.types (own e.types) (proper ps)) few)
+
+    abbrev base : Env
+    base = record e { types = u ps }
+
+    d : Declared base
+    d = declared_added e before (own e.types) (proper ps) tt few
+
+    built : AllFine (ParameterTold (u ps)) ps.list
+    built = all_then (ParameterTold e.types) (ParameterTold (u ps)) (parameter_stays e.types (u ps) before.told.types (grown_kept e.types (u ps) (added_grown e.types (own e.types) (proper ps)))) ps.list
+        (all_built e.types before.told.types ps.list p.lie none)
+
+    lie : AllLie HasPassing (u ps) p.own
+    lie = paired_lie (u ps) ps.list p.own p.paired built
+
+    its_entry : (f : Facts) × (entry (u ps) n ≡ Some (record { origin = own e.types; form = proper ps; facts = f }))
+    its_entry = added_entry e.types (own e.types) (proper ps) n given
+
+    signature : (parameters (u ps) n ≡ ps.list) × (result (u ps) n ≡ None)
+    signature = shape_parameters (u ps) n ps.list None (entry_shape (u ps) d.told.types n _ its_entry.1)
+
+    heading : HeadingTold (u ps) n
+    heading = (subst (AllFine (ParameterTold (u ps))) (sym signature.0) built, signature.1)
+
+    below : n < next (u ps)
+    below = entry_below (u ps) n _ its_entry.1
+
+    -- names of the block are those of the parameters
+    it_lies : (v : Variable) (its : RVar) → slice_get p.own v.number ≡ Some its → (lies_at (u ps) its.sort ≡ true) × HasPassing its.mode
+    it_lies v its there = fine_at (λ (v : RVar). (lies_at (u ps) v.sort ≡ true) × HasPassing v.mode) p.own v.number its lie there
+
+    parameter : (m : List ℕ) (x : Thing) → look_in p.block m ≡ Some x → IsParameter p.own (length e.scopes.outer + 1) x
+    parameter m x is = by x (subst (λ (o : Option Thing). IfSome o (IsNamed e p.own)) is (look_is (IsNamed e p.own) p.block m p.named))
+      where
+        by : (x : Thing) → IsNamed e p.own x → IsParameter p.own (length e.scopes.outer + 1) x
+        by (thing.Variable v) j = (j.0, subst HasPassing j.1.3 (it_lies v j.1.0 j.1.1).1, j.1)
+        by _ j = absurd j
+
+    abbrev its : RProc
+    its = homes.own e.scopes.blocks e.procedures e.variables e.locals e.scopes.outer e.scopes.inner e.procedure d.told.homed d.told.stands room h.name.name n p.block p.own parameter
+
+    name_told : (x : Thing) → IsNamed e p.own x → Told base x × IsIn (u ps) x
+    name_told (thing.Variable v) j = let l = it_lies v j.1.0 j.1.1 in ((subst HasPassing j.1.3 l.1, sym (ap (lies_at (u ps)) j.1.2) ∙ l.0), tt)
+    name_told _ j = absurd j
+
+    abbrev new : Entry
+    new = names.entry (procedure_thing (k e) (Some n) e) h.name.place
+
+    all_headed : AllHeaded (u ps) (e.procedures ++ its ∷ []) (e.locals ++ p.own ∷ [])
+    all_headed i q is = ⊎_elim
+        (λ (old : slice_get e.procedures i ≡ Some q). subst (λ (vs : List RVar). AreHeaded (parameters (u ps) q.sort) vs) (sym (local_same e.locals p.own i (omega (arith, slice_get_within e.procedures i q old, d.told.homed.each)))) (d.headed i q old))
+        (λ (new : (i ≡ length e.procedures) × (its ≡ q)). subst (λ (q : RProc). AreHeaded (parameters (u ps) q.sort) (locals_in (e.locals ++ p.own ∷ []) i)) new.1
+        (subst (λ (vs : List RVar). AreHeaded (parameters (u ps) n) vs) (sym (ap (locals_in (e.locals ++ p.own ∷ [])) (new.0 ∙ sym d.told.homed.each) ∙ last_locals p.own e.locals))
+        (subst (λ (xs : List Parameter). AreHeaded xs p.own) (sym signature.0) (paired_headed (u ps) ps.list p.own p.paired built))))
+        (at_end e.procedures its q i is)
+
+    last_declared : Declared (headed ps (e.scopes.blocks ++ p.block ∷ []) (e.locals ++ p.own ∷ []) n)
+    last_declared = record {
+      told = record {
+        types = d.told.types;
+        words = d.told.words;
+        names = bound_at_is (Told base) (e.scopes.blocks ++ p.block ∷ []) e.scopes.inner h.name.name new (fine_more _ e.scopes.blocks p.block d.told.names (all_then _ _ (λ (x : List ℕ × Entry) j. (name_told x.1.thing j).0) p.block p.named)) heading;
+        homed = homed_procedure e.scopes.blocks e.procedures e.variables e.locals e.scopes.outer e.scopes.inner e.procedure d.told.homed d.told.stands room h.name.name n p.block p.own parameter h.name.name new refl;
+        stands = stands_stays e.procedures (e.procedures ++ its ∷ []) (λ i q is. earlier e.procedures (its ∷ []) i q is) e.scopes.outer e.scopes.inner e.procedure (omega (arith, length_push e.procedures its)) d.told.stands;
+      };
+      residents = bound_at_is (IsIn (u ps)) (e.scopes.blocks ++ p.block ∷ []) e.scopes.inner h.name.name new (fine_more _ e.scopes.blocks p.block d.residents (all_then _ _ (λ (x : List ℕ × Entry) j. (name_told x.1.thing j).1) p.block p.named)) below;
+      variables = (d.variables.0, fine_more (AllLie HasPassing (u ps)) e.locals p.own d.variables.1 lie);
+      proper = fine_more (IsProper (u ps)) e.procedures its d.proper (below, heading);
+      headed = all_headed;
+    }
+
+    headed_told : Declared (headed ps bs ls n)
+    headed_told = subst (λ (ls : List (List RVar)). Declared (headed ps bs ls n)) (sym p.locals_are) (subst (λ (bs : List Names). Declared (headed ps bs (e.locals ++ p.own ∷ []) n)) (sym p.blocks_are) last_declared)
+
+  -- ---- behind its parameters
+  module _ (ps : Parameters) (bs : List Names) (ls : List (List RVar)) (told : Few e.types → ArePassed e bs ls ps) (none : list_any (is_unbuilt e.types) ps.list ≡ false) where
+    abbrev f : Env
+    f = with_parts e bs ls
+
+    record IsTyped (m : Made) : Type 0 where
+      number : ℕ
+      is : m ≡ (record f { types = u ps }, Some number)
+      given : added_number e.types (proper ps) ≡ Some number
+
+    typed_right : Right IsTyped (type_node f h.place (proper ps))
+    unfolding type_node
+    typed_right clear = let n = is_there (added_number e.types (proper ps)) clear.0 in record { number = n.0; is = λ i. (record f { types = u ps }, n.1 i); given = n.1 }
+
+    named_right : (m : Made) → IsTyped m → Right (IsHeaded e) (named_means (k e) h.name m)
+    unfolding after bind_at numbered_node
+    named_right m made = subst (λ (m : Made). Right (IsHeaded e) (named_means (k e) h.name m)) (sym made.is) (λ clear.
+        let room : length e.procedures < 250 = grind (arith, nat_tests, clear.1.0) in
+        let before = few_before e.types (u ps) (added_grown e.types (own e.types) (proper ps)) in
+        record { its = _; procedures = refl; procedure = refl; few = before; told = λ few. headed_told ps bs ls made.number made.given room few (told (before few)) none })
+
+    -- without a type where a parameter has a fault
+    broken_right : ps.right ≡ false → Right (IsHeaded e) (named_means (k e) h.name (f, None))
+    unfolding after bind_at numbered_node
+    broken_right wrong clear = record { its = _; procedures = refl; procedure = refl; few = λ few. few; told = λ few. absurd (true≢false (sym (told few).right ∙ wrong)) }
+
+    rest_right : Right (IsHeaded e) (after (after (result_means f None) (λ n. form_node f h.place (procedure_form ps n))) (named_means (k e) h.name))
+    unfolding after
+    rest_right = by ps.right refl
+      where
+        by : (c : Bool) → ps.right ≡ c → Right (IsHeaded e) (after (form_node f h.place (if c then Some (proper ps) else None)) (named_means (k e) h.name))
+        by true is = after_right IsTyped (IsHeaded e) (type_node f h.place (proper ps)) (named_means (k e) h.name) typed_right named_right
+        by false is = broken_right is
+
+  parts_right : (q : Headed) → IsHeading e q → (r : Option Qualident) → Right (IsHeaded e) (not_built (has_more q.0.types q.1.list r) h.place (after (after (result_means q.0 r) (λ n. form_node q.0 h.place (procedure_form q.1 n))) (named_means (k e) h.name)))
+  unfolding not_built
+  parts_right q j r = subst (λ (q : Headed). Right (IsHeaded e) (not_built (has_more q.0.types q.1.list r) h.place (after (after (result_means q.0 r) (λ n. form_node q.0 h.place (procedure_form q.1 n))) (named_means (k e) h.name)))) (λ i. (sym j.is i, q.1)) (by r)
     where
-      base : Env
-      base = record e { types = u }
-
-      d : Declared base
-      d = declared_added e (begun (few_before e.types u (added_grown e.types (own e.types) proper) few)) (own e.types) proper tt few
-
-      its : RProc
-      its = homes.own e.scopes.blocks e.procedures e.variables e.locals e.scopes.outer e.scopes.inner e.procedure d.told.homed d.told.stands room h.name.name n
-
-      new : Entry
-      new = names.entry (procedure_thing k (Some n) typed) h.name.place
-
-      at : (f : Facts) × (entry u n ≡ Some (record { origin = own e.types; form = proper; facts = f }))
-      at = added_entry e.types (own e.types) proper n given
-
-      heading : (parameters u n ≡ []) × (result u n ≡ None)
-      heading = shape_parameters u n [] None (entry_shape u d.told.types n _ at.1)
-
-      below : n < next u
-      below = entry_below u n _ at.1
-
-  named_right : (m : Made) → IsTyped m → Right (IsHeaded e) (named_means k h.name m)
-  unfolding after bind_at numbered_node
-  named_right m made = subst (λ (m : Made). Right (IsHeaded e) (named_means k h.name m)) (λ i. (sym made.env i, sym made.some i)) (by made.number made.given)
-    where
-      by : (n : ℕ) → added_number e.types proper ≡ Some n → Right (IsHeaded e) (named_means k h.name (typed, Some n))
-      by n given clear =
-          let room : length e.procedures < 250 = grind (arith, nat_tests, clear.1.0) in
-          record {
-            its = _;
-            procedures = refl;
-            procedure = refl;
-            few = few_before e.types u (added_grown e.types (own e.types) proper);
-            told = headed_told n given room;
-          }
-
-  abbrev rest : Headed → (Option Qualident) → Env × List Row
-  rest q r = after (after (result_means q.0 r) (λ n. form_node q.0 h.place (procedure_form q.1 n))) (named_means k h.name)
-
-  typed_right : Right IsTyped (type_node (names.begun e) h.place proper)
-  unfolding type_node
-  typed_right clear = let n = is_there (added_number e.types proper) clear.0 in record { env = refl; number = n.0; some = n.1; given = n.1 }
-
-  bare_right : Right (IsHeaded e) (rest (names.begun e, no_parameters) None)
-  bare_right = after_right IsTyped (IsHeaded e) _ (named_means k h.name)
-      (after_right (λ (n : NamedType). n ≡ Absent) IsTyped (result_means (names.begun e) None) _ (λ clear. refl)
-      (λ n same. subst (λ (n : NamedType). Right IsTyped (form_node (names.begun e) h.place (procedure_form no_parameters n))) (sym same) typed_right))
-      named_right
-
-  parts_right : (ss : List Section) (r : Option Qualident) → (not (is_empty ss) || is_some r) ≡ false → Right (IsHeaded e) (after (walk (section_step (home_at e k)) (names.begun e, no_parameters) ss) (λ q. rest q r))
-  parts_right [] None none = after_right (λ (q : Headed). q ≡ (names.begun e, no_parameters)) (IsHeaded e) (walk (section_step (home_at e k)) (names.begun e, no_parameters) []) _ (λ clear. refl) (λ q same. subst (λ (q : Headed). Right (IsHeaded e) (rest q None)) (sym same) bare_right)
-  parts_right [] (Some q) none = absurd (true≢false none)
-  parts_right (s ∷ ss) r none = absurd (true≢false none)
+      by : (r : Option Qualident) → Right (IsHeaded e) (not_built (has_more e.types q.1.list r) h.place (after (after (result_means (with_parts e j.blocks j.locals) r) (λ n. form_node (with_parts e j.blocks j.locals) h.place (procedure_form q.1 n))) (named_means (k e) h.name)))
+      by None clear = rest_right q.1 j.blocks j.locals j.told (or_parts (list_any (is_unbuilt e.types) q.1.list) false clear.0).0 clear.1
+      by (Some x) clear = absurd (true≢false (or_parts (list_any (is_unbuilt e.types) q.1.list) true clear.0).1)
 
   pub heading_right : Right (IsHeaded e) (heading_means e h)
-  unfolding not_built
-  heading_right clear = parts_right h.sections h.result clear.0 clear.1
+  heading_right = after_right (IsHeading e) (IsHeaded e) (walk (section_step (home_at e (k e))) (names.begun e, no_parameters) h.sections) _
+      (walk_keeps (IsHeading e) (section_step (home_at e (k e))) (λ q s j. section_right e begun q s j) (names.begun e, no_parameters) h.sections (none_yet e))
+      (λ q j. parts_right q j h.result)
 
 -- ---- what is declared inside of a procedure
 module _ (e : Env) (g : Env) (headed : IsHeaded e g) where
@@ -192,6 +234,7 @@ module _ (e : Env) (g : Env) (headed : IsHeaded e g) where
     residents = d.residents;
     variables = d.variables;
     proper = d.proper;
+    headed = d.headed;
   }
 
   pub left : (ss : List Stmt) (ts : Texts) (w : Env) → After at ts w → After e (Some ss ∷ ts) (outside g w)
@@ -215,6 +258,7 @@ module _ (e : Env) (g : Env) (headed : IsHeaded e g) where
           residents = d.residents;
           variables = d.variables;
           proper = d.proper;
+          headed = d.headed;
         };
   }
     where

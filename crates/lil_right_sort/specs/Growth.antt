@@ -6,16 +6,16 @@ use Rattle.lil_types.specs.{Types.{Table, entry, known, facts_in, meant, meant_b
 use Rattle.lil_types.specs.declared.table.{TypeEntry.TypeEntry, TypeForm.{TypeForm, TheVariants.{Enumeration, Subrange, Array, Record, SetOf, Pointer, Procedure, Opaque}}}
 use Rattle.lil_types.specs.Types as types
 use Rattle.lil_types.specs.Adding as adding
-use Rattle.lil_declared.specs.declared.declared.{RProc.RProc, RVar.RVar}
+use Rattle.lil_declared.specs.declared.declared.{Mode.Mode, RProc.RProc, RVar.RVar}
 use Rattle.lil_resolved.specs.declared.resolved.{RBase.RBase, RKind.RKind}
 use Rattle.lil_resolved.specs.declared.resolved.RBase.TheVariants as b
-use Rattle.lil_scope.specs.{declared.{env.{Env.Env, Wait.Wait}, thing.{Entry.Entry, Kind.Kind, Thing.Thing}}, Names.{bound_at, with_blocks, with_block}}
+use Rattle.lil_scope.specs.{declared.{env.{Env.Env, Wait.Wait}, thing.{Entry.Entry, Kind.Kind, Thing.Thing}}, Names.{bound_at, with_blocks, with_block, locals_in}}
 use Rattle.lil_scope.specs.declared.thing.Kind.TheVariants as k
 use Rattle.lil_scope.specs.declared.thing.Thing.TheVariants as thing
 use Rattle.lil_kinds.specs.{Forms.{form_in, shape, span_in, is_routine_form, of_form, parameters, parameters_of, parameters_in, result, result_of}}
 use Rattle.lil_shapes.specs.{BaseLaws.kind_base, Bases.{plain, base_by, base_form, base_at, kind_over, kind_at, is_composite, composite_at, composite_by}, ListLaws.AllFine, Pointers.lies_at, ShapeSound.{at_end, earlier}}
 use Rattle.lil_forms.specs.Scopes.{fine_more}
-use Rattle.lil_right_type.specs.{Homes.{Longer, AllLonger, Allowed, homed_bound, homed_begun, homed_more}, Types.{HasNumbers, HasSpan, FormTold, IsTold, IsOrdinal, meant_is, own_base, known_ordinal, entry_known}, Words.{FormMeasured, AreMeasured}, Parts.base_itself, Found.{KindTold, signature, ThingTold, EnvTold}}
+use Rattle.lil_right_type.specs.{Homes.{Longer, AllLonger, IsPlain, HasPassing, Allowed, homed_bound, homed_begun, homed_more}, Types.{HasNumbers, HasSpan, FormTold, IsTold, IsOrdinal, meant_is, own_base, known_ordinal, entry_known}, Words.{FormMeasured, AreMeasured}, Parts.base_itself, Found.{KindTold, ParameterTold, HeadingTold, AreHeaded, ThingTold, EnvTold}}
 use Rattle.lil_right_value.specs.Names.{Told, bound_at_is}
 pub use Rattle.lil_right_type.specs.{Right.all_then, Homes.last_there}
 
@@ -24,6 +24,12 @@ module _ {A : Type 0} (P Q R : A → Type 0) where
   pub all_with : ((x : A) → P x → Q x → R x) → (xs : List A) → AllFine P xs → AllFine Q xs → AllFine R xs
   all_with f [] h j = tt
   all_with f (x ∷ xs) h j = (f x h.0 j.0, all_with f xs h.1 j.1)
+
+module _ {A : Type 0} (P : A → Type 0) where
+  pub fine_at : (xs : List A) (n : ℕ) (x : A) → AllFine P xs → slice_get xs n ≡ Some x → P x
+  fine_at [] n x h is = absurd (none-some x is)
+  fine_at (y ∷ xs) zero x h is = subst P (same_Some y x is) h.0
+  fine_at (y ∷ xs) (suc n) x h is = fine_at xs n x h.1 is
 
 pub some_is : {A : Type 0} (o : Option A) → is_some o ≡ true → (a : A) × (o ≡ Some a)
 some_is None h = absurd (true≢false (sym h))
@@ -191,10 +197,17 @@ module _ {to : ℕ} (t u : Table) (told : IsTold t) (kept : Kept to t u) where
       ∙ same (λ o. part (form_in o)) blind n h
       ∙ sym (ap (λ m. part (form_in (entry t m))) (meant_is t told n))
 
-  pub heading_stays : (ps : List Parameter) (s : ℕ) → s < next t → (parameters t s ≡ ps) × (result t s ≡ None) → (parameters u s ≡ ps) × (result u s ≡ None)
+  pub same_signature : (s : ℕ) → s < next t → (parameters u s ≡ parameters t s) × (result u s ≡ result t s)
   unfolding parameters result
-  heading_stays ps s here h =
-      (same_heading parameters_in (λ e a form. sym (ap parameters_of form)) s here ∙ h.0, same_heading (of_form result_of) (λ e a form. sym (ap result_of form)) s here ∙ h.1)
+  same_signature s here = (same_heading parameters_in (λ e a form. sym (ap parameters_of form)) s here, same_heading (of_form result_of) (λ e a form. sym (ap result_of form)) s here)
+
+  pub parameter_stays : (p : Parameter) → ParameterTold t p → ParameterTold u p
+  parameter_stays p h = record { closed = h.closed; lies = lies_stays p.sort h.lies; single = λ e. let k = h.single e in (k.0, kind_stays p.sort k.0 k.1) }
+
+  pub heading_stays : (s : ℕ) → s < next t → HeadingTold t s → HeadingTold u s
+  heading_stays s here h =
+      let same = same_signature s here in
+      (subst (AllFine (ParameterTold u)) (sym same.0) (all_then (ParameterTold t) (ParameterTold u) parameter_stays (parameters t s) h.0), same.1 ∙ h.1)
 
   -- as more texts are declared too
   module _ (texts more : List (List ℕ)) (kept_texts : Longer texts more) where
@@ -203,8 +216,8 @@ module _ {to : ℕ} (t u : Table) (told : IsTold t) (kept : Kept to t u) where
     thing_stays (thing.Named n c) here h = (h.0, (h.1.0, kept_texts n h.1.0 h.1.1, h.1.2))
     thing_stays (thing.Variable v) here h = (h.0, lies_stays v.sort h.1)
     thing_stays (thing.Type s) here h = λ so. lies_stays s (h so)
-    thing_stays (thing.Procedure x) here h = heading_stays [] x.sort here h
-    thing_stays (thing.Resident x s) here h = heading_stays (signature x) s here h
+    thing_stays (thing.Procedure x) here h = heading_stays x.sort here h
+    thing_stays (thing.Resident x s) here h = let same = same_signature s here in (same.0 ∙ h.0, same.1 ∙ h.1)
     thing_stays _ here h = h
 
   in_stays : (x : Thing) → IsIn t x → IsIn u x
@@ -347,22 +360,27 @@ shape_parameters t n ps r is = (ap parameters_in is, ap (of_form result_of) is)
 abbrev AreIn : Env → Type 0
 AreIn e = AllFine (AllFine (λ (x : List ℕ × Entry). IsIn e.types x.1.thing)) e.scopes.blocks
 
--- something lies in all variables, of the module and of each procedure
-abbrev pub AllLie : Table → List RVar → Type 0
-AllLie t vs = AllFine (λ (v : RVar). lies_at t v.sort ≡ true) vs
+-- something lies in all variables, or where they lead to: of the module, which has no parameters, and of each procedure
+abbrev pub AllLie : (Mode → Type 0) → Table → List RVar → Type 0
+AllLie Q t vs = AllFine (λ (v : RVar). (lies_at t v.sort ≡ true) × Q v.mode) vs
 
 abbrev pub Lie : Table → List RVar → List (List RVar) → Type 0
-Lie t vs ls = AllLie t vs × AllFine (AllLie t) ls
+Lie t vs ls = AllLie IsPlain t vs × AllFine (AllLie HasPassing t) ls
 
--- the type of a procedure without parameters, which isn't a function
+-- the type of a procedure that isn't a function
 abbrev pub IsProper : Table → RProc → Type 0
-IsProper t q = (q.sort < next t) × ((parameters t q.sort ≡ []) × (result t q.sort ≡ None))
+IsProper t q = (q.sort < next t) × HeadingTold t q.sort
+
+-- the first variables of a procedure are those for its parameters
+abbrev pub AllHeaded : Table → List RProc → List (List RVar) → Type 0
+AllHeaded t ps ls = (n : ℕ) (q : RProc) → slice_get ps n ≡ Some q → AreHeaded (parameters t q.sort) (locals_in ls n)
 
 pub record Declared (e : Env) : Type 0 where
   pub told : EnvTold e
   pub residents : AreIn e
   pub variables : Lie e.types e.variables e.locals
   pub proper : AllFine (IsProper e.types) e.procedures
+  pub headed : AllHeaded e.types e.procedures e.locals
 
 -- a thing that may be bound there, in a block
 abbrev pub IsThing : Env → ℕ → Thing → Type 0
@@ -373,15 +391,16 @@ module _ (e : Env) (h : Declared e) where
   declared_kept u kept told measured = record {
     told = record { types = told; words = measured; names = all_with _ _ _ (λ b. all_with _ _ _ (λ (x : List ℕ × Entry). same_things x.1.thing) b) e.scopes.blocks h.residents h.told.names; homed = h.told.homed; stands = h.told.stands };
     residents = all_then _ _ (λ b. all_then _ _ (λ (x : List ℕ × Entry). in_stays e.types u h.told.types kept x.1.thing) b) e.scopes.blocks h.residents;
-    variables = (they_lie e.variables h.variables.0, all_then _ _ they_lie e.locals h.variables.1);
-    proper = all_then (IsProper e.types) (IsProper u) (λ (q : RProc) j. (kept.below q.sort j.0, heading_stays e.types u h.told.types kept [] q.sort j.0 j.1)) e.procedures h.proper;
+    variables = (they_lie IsPlain e.variables h.variables.0, all_then _ _ (they_lie HasPassing) e.locals h.variables.1);
+    proper = all_then (IsProper e.types) (IsProper u) (λ (q : RProc) j. (kept.below q.sort j.0, heading_stays e.types u h.told.types kept q.sort j.0 j.1)) e.procedures h.proper;
+    headed = λ n q is. subst (λ (ps : List Parameter). AreHeaded ps (locals_in e.locals n)) (sym (same_signature e.types u h.told.types kept q.sort (fine_at (IsProper e.types) e.procedures n q h.proper is).0).0) (h.headed n q is);
   }
     where
       same_things : (x : Thing) → IsIn e.types x → ThingTold e.types e.texts x → ThingTold u e.texts x
       same_things = thing_stays e.types u h.told.types kept e.texts e.texts (λ i cs is. is)
 
-      they_lie : (vs : List RVar) → AllLie e.types vs → AllLie u vs
-      they_lie = all_then _ _ (λ (v : RVar). lies_stays e.types u h.told.types kept v.sort)
+      they_lie : (Q : Mode → Type 0) (vs : List RVar) → AllLie Q e.types vs → AllLie Q u vs
+      they_lie Q = all_then _ _ (λ (v : RVar) j. (lies_stays e.types u h.told.types kept v.sort j.0, j.1))
 
   pub declared_added : (o : Origin) (form : TypeForm) → PartsTold e.types form → Few (added e.types o form) → Declared (record e { types = added e.types o form })
   declared_added o form parts few =
@@ -395,6 +414,7 @@ module _ (e : Env) (h : Declared e) where
     residents = h.residents;
     variables = h.variables;
     proper = h.proper;
+    headed = h.headed;
   }
 
   -- a name more in a block, and a block more, without names
@@ -410,6 +430,7 @@ module _ (e : Env) (h : Declared e) where
     residents = bound_at_is (IsIn e.types) e.scopes.blocks k n x h.residents j.1.0;
     variables = h.variables;
     proper = h.proper;
+    headed = h.headed;
   }
 
   pub begun_declared : Declared (with_block e)
@@ -424,11 +445,12 @@ module _ (e : Env) (h : Declared e) where
     residents = fine_more _ e.scopes.blocks [] h.residents tt;
     variables = h.variables;
     proper = h.proper;
+    headed = h.headed;
   }
 
   -- more variables, behind those before
-  pub variables_declared : (vs : List RVar) (ls : List (List RVar)) → Longer e.variables vs → AllLonger e.locals ls → length ls ≡ length e.locals → Lie e.types vs ls → Declared (record e { variables = vs; locals = ls })
-  variables_declared vs ls more locals many all = record {
+  pub variables_declared : (vs : List RVar) (ls : List (List RVar)) → Longer e.variables vs → AllLonger e.locals ls → length ls ≡ length e.locals → Lie e.types vs ls → AllHeaded e.types e.procedures ls → Declared (record e { variables = vs; locals = ls })
+  variables_declared vs ls more locals many all headed = record {
     told = record {
       types = h.told.types;
       words = h.told.words;
@@ -439,6 +461,7 @@ module _ (e : Env) (h : Declared e) where
     residents = h.residents;
     variables = all;
     proper = h.proper;
+    headed = headed;
   }
 
   -- more texts, likewise
@@ -454,6 +477,7 @@ module _ (e : Env) (h : Declared e) where
     residents = h.residents;
     variables = h.variables;
     proper = h.proper;
+    headed = h.headed;
   }
     where
       same_things : (x : Thing) → IsIn e.types x → ThingTold e.types e.texts x → ThingTold e.types texts x

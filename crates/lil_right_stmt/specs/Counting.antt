@@ -1,11 +1,13 @@
 -- What stands between FOR and DO, where no test finds a fault: the variable, its first and its last value, and the step.
 use Rattle.std.proofs.Common.{◌≡◌, Bool, true, false, not, ◌||◌, List, Option, Some, None, refl, sym, ap, subst, ◌∙◌, arith, true≢false}
 use Rattle.std.specs.Prelude.{ℤ, pos, negsuc, ◌&&◌, int_lt, is_some}
-use Rattle.std.proofs.lemmas.{Int.ints, Bool.Decides.nat_tests}
+use Rattle.std.proofs.lemmas.{Int.ints, Bool.{or_parts, Decides.nat_tests}}
 use Rattle.lil_base.specs.{Laws.bounds, Words.{Integer, in_type, is_zero}, declared.fault.Place.Place}
 use Rattle.lil_types.specs.{declared.table.Span.Span}
+use Rattle.lil_declared.specs.declared.declared.Mode.{Mode, TheVariants.Plain}
+use Rattle.lil_resolved.specs.declared.resolved.RPassing.TheVariants.{ByValue}
 use Rattle.lil_resolved.specs.{Bases.own_base, Kinds.{Scope, base_of, is_ordinal}, Sound.{IsSoundVariable, IsSoundValue, IsSoundWhole, IsStep}, Views.{base_view, kind_view, named_view, expression_of, for_is}, declared.resolved.{RExpr.RExpr, RStmt.RStmt, RVariable.RVariable}}
-use Rattle.lil_shapes.specs.{BaseLaws.kind_base, Bases.kind_at, ShapeSound.word_shaped}
+use Rattle.lil_shapes.specs.{BaseLaws.kind_base, Bases.kind_at, Shaping.passing_of, ShapeSound.word_shaped}
 use Rattle.lil_scope.specs.declared.{env.Env.Env, thing.{Kind.Kind, Variable.Variable}}
 use Rattle.lil_scope.specs.declared.thing.Kind.TheVariants as k
 use Rattle.lil_scope.specs.declared.thing.Thing.TheVariants as t
@@ -65,32 +67,32 @@ module _ (e : Env) {ts : Scope} (fits : Fits e.types (seen e) e.withs ts) (told 
       by None h = h
       by (Some x) j = kept_if (StatementSound ts looping) (is_step c.by) _ h.1 (made_sound ts looping _ _ (for_is x.variable x.from x.to c.by ss) (j.0, j.1, j.2, step_sound c.by h.1, body_sound ts looping ss all))
 
-  counts_with : (v : Variable) → SeenTold e (t.Variable v) → (o : Option Span) → span_of e.types v.sort ≡ o → is_some o ≡ true → IsCounter (record { variable = counting_with e v; sort = v.sort })
+  counts_with : (v : Variable) → SeenTold e (t.Variable v) → v.mode ≡ Plain → (o : Option Span) → span_of e.types v.sort ≡ o → is_some o ≡ true → IsCounter (record { variable = counting_with e v; sort = v.sort })
   unfolding counted_variable
-  counts_with v h None is some = cc
-  counts_with v h (Some u) is some =
+  counts_with v h plain None is some = cc
+  counts_with v h plain (Some u) is some =
       let x = h.1 in
       let o = ordinal_is e.types told.types v.sort u is in
       let at : kind_at e.types x.its.sort ≡ Some o.kind = ap (kind_at e.types) x.sort_is ∙ o.at in
-      let lies = variable_lies fits x.named x.its x.there in
+      let lies = variable_lies fits x.named x.its ByValue x.there (ap passing_of (x.mode_is ∙ plain)) in
       record {
         variable = record { named = x.named; kind = o.kind };
         is = ap (counting_named e) x.is ∙ ap (counted_variable e.types x.named) x.there ∙ ap (variable_by x.named) at;
         at = o.at;
         ordinal = o.ordinal;
-        sound = record { known = lies.2 ∙ ap Some (word_shaped e.types fits.shapes x.its.sort lies.0 (has_shape fits x.its.sort lies.0 lies.1) o.kind at); base = ap is_ordinal (own_base o.kind) ∙ o.ordinal };
+        sound = record { known = lies.3 ∙ ap Some (word_shaped e.types fits.shapes x.its.sort lies.0 (has_shape fits x.its.sort lies.0 lies.1) o.kind at); base = ap is_ordinal (own_base o.kind) ∙ o.ordinal };
       }
 
   pub counter_right : (p : Place) (x : Looked) → LookTold e told x → Right (IsThere IsCounter) (counter_node e p x)
   unfolding counter_node Kinds.is_ordinal
   counter_right p x h = node_right IsCounter (counter_node e p x).1 (counter_of e x) (λ clear. by x h clear.0 clear.1.0 clear.1.1.0)
     where
-      second : (a c : Bool) → (a || c) ≡ false → c ≡ false
-      second true c h = cc
-      second false c h = h
+      plain : (m : Mode) → not (is_plain m) ≡ false → m ≡ Plain
+      plain Plain h = refl
+      plain _ h = cc
 
       by : (x : Looked) → LookTold e told x → is_nothing x ≡ false → is_other x ≡ false → is_unfit e.types x ≡ false → IsThere IsCounter (counter_of e x)
-      by (l.Thing (t.Variable v)) h nothing other unfit = counts_with v h (span_of e.types v.sort) refl (is_so (Kinds.is_ordinal e.types (k.Of v.sort)) (second (not (is_plain v.mode)) _ unfit))
+      by (l.Thing (t.Variable v)) h nothing other unfit = let parts = or_parts (not (is_plain v.mode)) _ unfit in counts_with v h (plain v.mode parts.0) (span_of e.types v.sort) refl (is_so (Kinds.is_ordinal e.types (k.Of v.sort)) parts.1)
       by (l.Thing t.Broken) h nothing other unfit = absurd h.0
       by _ h nothing other unfit = cc
 

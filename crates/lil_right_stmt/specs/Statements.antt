@@ -69,12 +69,12 @@ AreArms ts looping g out = IsThere (AllFine (IsArm ts looping g)) out.arms
 -- ---- the body of a module, or of a procedure that is no function, with the calls that names reach there
 pub record InBody (e : Env) (ts : Scope) : Type 0 where
   pub returns : result_at e ≡ None
-  pub calls : Calls (IsSeen e.procedures (chain e)) ts
+  pub calls : Calls e.types (IsSeen e.procedures (chain e)) ts
 
 in_with : (e : Env) (ts : Scope) (r : Taken within) (x : Shape) → InBody e ts → InBody (within (Some r) e) (with_held ts x)
 in_with e ts r x h = record {
   returns = same e.procedure ∙ h.returns;
-  calls = λ n levels seen. let c = h.calls n levels seen in (c.0, (c.1.0, record { its = c.1.1.its; known = c.1.1.known; declared = c.1.1.declared }));
+  calls = λ s n levels seen. let c = h.calls s n levels seen in record { low = c.low; few = c.few; may = record { its = c.may.its; known = c.may.known; declared = c.may.declared }; takes = c.takes };
 }
   where
     same : (o : Option ℕ) → result_by (within (Some r) e) o ≡ result_by e o

@@ -2,7 +2,7 @@
 use Rattle.std.specs.Prelude.{◌≡◌, ℕ, ◌+◌, ◌≤◌, pos, negsuc, Bool, true, false, List, [], ◌∷◌, length, slice_get, Option, Some, None}
 use Rattle.lil_base.specs.Words.{between}
 use Rattle.lil_types.specs.{Types.{Table, base, char, cardinal, integer, address, proc, process}, declared.table.Parameter.Parameter}
-use Rattle.lil_declared.specs.declared.{declared.{Mode.TheVariants.Plain, RVar.RVar}, standard.Resident.Resident}
+use Rattle.lil_declared.specs.declared.{declared.{Mode.{Mode, TheVariants.{Value, Place}}, RVar.RVar}, standard.Resident.Resident}
 use Rattle.lil_declared.specs.declared.standard.Resident.TheVariants as r
 use Rattle.lil_scope.specs.{Built.built, declared.{env.Env.Env, thing.{Chars.Chars, Entry.Entry, Kind.Kind, Thing.Thing}}}
 use Rattle.lil_scope.specs.declared.thing.Kind.TheVariants as k
@@ -14,7 +14,7 @@ use Rattle.lil_resolved.specs.{Sizes.{place_depth, depth}, Sound.is_text, Views.
 use Rattle.lil_resolved.specs.declared.resolved.RBase.TheVariants as b
 use Rattle.lil_shapes.specs.{Bases.{base_at, kind_at}, ListLaws.AllFine, Operators.has_number, Pointers.lies_at}
 use Rattle.lil_forms.specs.{Properties.{Property, nothing, value_kind}, Variables.seen}
-use Rattle.lil_right_type.specs.{Homes.{Homed, Stands}, Types.IsTold, Words.AreMeasured}
+use Rattle.lil_right_type.specs.{Homes.{IsPlain, HasPassing, Homed, Stands}, Types.IsTold, Words.AreMeasured}
 
 -- ---- kinds
 -- a base whose constants are told by their words
@@ -117,6 +117,28 @@ pub record IsFound {t : Table} {vs : RNamed → Option RVar} {around : List ℕ}
 abbrev pub IsKnown : Env → Found → Type 0
 IsKnown e a = IsFound (nothing e.types (seen e) e.withs) a
 
+-- ---- parameters
+-- one of which code is made: no open array, and by value one of a type that has a kind
+pub record ParameterTold (t : Table) (p : Parameter) : Type 0 where
+  pub closed : p.open_array ≡ false
+  pub lies : lies_at t p.sort ≡ true
+  pub single : p.by_place ≡ false → (j : RKind) × (kind_at t p.sort ≡ Some j)
+
+-- the type of a proper procedure with such parameters
+abbrev pub HeadingTold : Table → ℕ → Type 0
+HeadingTold t s = AllFine (ParameterTold t) (parameters t s) × (result t s ≡ None)
+
+-- how the variable for a parameter is declared
+abbrev pub passing_by : Bool → Mode
+passing_by false = Value
+passing_by true = Place
+
+-- the variables of a procedure: those for its parameters, and behind them its own
+abbrev pub AreHeaded : List Parameter → List RVar → Type 0
+AreHeaded [] vs = AllFine (λ (v : RVar). IsPlain v.mode) vs
+AreHeaded (p ∷ ps) [] = ⊥
+AreHeaded (p ∷ ps) (v ∷ vs) = (v.sort ≡ p.sort) × (v.mode ≡ passing_by p.by_place) × AreHeaded ps vs
+
 -- ---- names
 -- the parameters of each resident procedure
 abbrev pub value : ℕ → Parameter
@@ -144,9 +166,9 @@ abbrev pub ThingTold : Table → List (List ℕ) → Thing → Type 0
 ThingTold types texts (t.Constant kind) = KindTold types kind × IsBare kind
 ThingTold types texts (t.Named n c) = (c.first ≤ 255) × ((cs : List ℕ) × (slice_get texts n ≡ Some cs) × TextTold c cs)
 ThingTold types texts t.Nil = Unit {0}
-ThingTold types texts (t.Variable v) = (v.mode ≡ Plain) × (lies_at types v.sort ≡ true)
+ThingTold types texts (t.Variable v) = HasPassing v.mode × (lies_at types v.sort ≡ true)
 ThingTold types texts (t.Type s) = built (t.Type s) ≡ true → lies_at types s ≡ true
-ThingTold types texts (t.Procedure x) = (parameters types x.sort ≡ []) × (result types x.sort ≡ None)
+ThingTold types texts (t.Procedure x) = HeadingTold types x.sort
 ThingTold types texts (t.Resident x s) = (parameters types s ≡ signature x) × (result types s ≡ None)
 ThingTold types texts (t.Standard x) = Unit {0}
 ThingTold types texts (t.Module b) = Unit {0}

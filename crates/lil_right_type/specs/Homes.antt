@@ -2,13 +2,14 @@
 use Rattle.std.proofs.Common.{◌≡◌, ℕ, zero, suc, ◌+◌, ◌-◌, ◌<◌, ◌≤◌, ◌⊎◌, inl, inr, Bool, true, false, List, [], ◌∷◌, ◌++◌, length, drop, slice_get, Option, Some, None, IfSome, if◌then◌else◌, refl, sym, ap, subst, ◌∙◌, ⊎_elim, arith, length-drop}
 use Rattle.std.specs.Prelude.{◌==◌, nat_lt, slice_set}
 use Rattle.std.proofs.lemmas.{Option.{none-some, same_Some, slice_get_within}, Bool.{Decides.nat_tests}}
-use Rattle.lil_declared.specs.declared.declared.{RProc.RProc, RVar.RVar}
+use Rattle.lil_declared.specs.declared.declared.{Mode.Mode, RProc.RProc, RVar.RVar}
+use Rattle.lil_declared.specs.declared.declared.Mode.TheVariants as mode
 use Rattle.lil_resolved.specs.Kinds as kinds
-use Rattle.lil_resolved.specs.declared.resolved.RNamed.{RNamed}
+use Rattle.lil_resolved.specs.declared.resolved.{RNamed.RNamed, RPassing.RPassing, RRoot.RRoot}
 use Rattle.lil_resolved.specs.declared.resolved.RNamed.TheVariants as named
 use Rattle.std.proofs.lemmas.List.{length_push}
-use Rattle.lil_shapes.specs.{ListLaws.AllFine, ShapeSound.{at_end, earlier}}
-use Rattle.lil_forms.specs.{Scopes.fine_more, Variables.{level_named, named_at, locals_out, seen_in}}
+use Rattle.lil_shapes.specs.{ListLaws.AllFine, Shaping.passing_of, ShapeSound.{at_end, earlier}}
+use Rattle.lil_forms.specs.{Places.root_of, Scopes.fine_more, Variables.{level_named, named_at, locals_out, seen_in}}
 use Rattle.lil_right_type.specs.Right.{all_then}
 use Rattle.lil_scope.specs.{declared.{env.Env.Env, scope.Scopes.Scopes, thing.{Entry.Entry, Routine.Routine, Thing.Thing, Variable.Variable}}, Names.{Names, same, entry_in, thing_of, look_in, inner_or, block_at, find_in, find, is_new, bound, bound_at, around_of, chain_by, chain, levels_out, locals_in}}
 use Rattle.lil_scope.specs.declared.thing.Thing.TheVariants as thing
@@ -82,11 +83,14 @@ bound_many bs k n e = by (nat_lt k (length bs))
     by true = set_many bs k (bound (block_at bs k) n e)
     by false = refl
 
+look_last : (bs : List Names) (b : Names) (j : ℕ) (m : List ℕ) (x : Thing) → look_in (block_at (bs ++ b ∷ []) j) m ≡ Some x → (look_in (block_at bs j) m ≡ Some x) ⊎ ((j ≡ length bs) × (look_in b m ≡ Some x))
+look_last [] b zero m x is = inr (refl, is)
+look_last [] b (suc j) m x is = inl is
+look_last (a ∷ bs) b zero m x is = inl is
+look_last (a ∷ bs) b (suc j) m x is = ⊎_elim (λ before. inl before) (λ new. inr (ap suc new.0, new.1)) (look_last bs b j m x is)
+
 pub look_begun : (bs : List Names) (j : ℕ) (m : List ℕ) (x : Thing) → look_in (block_at (bs ++ [] ∷ []) j) m ≡ Some x → look_in (block_at bs j) m ≡ Some x
-look_begun [] zero m x is = absurd (none-some x is)
-look_begun [] (suc j) m x is = is
-look_begun (b ∷ bs) zero m x is = is
-look_begun (b ∷ bs) (suc j) m x is = look_begun bs j m x is
+look_begun bs j m x is = ⊎_elim (λ before. before) (λ new. absurd (none-some x new.1)) (look_last bs [] j m x is)
 
 -- ---- homes
 -- what is left of a list behind its first elements
@@ -111,11 +115,25 @@ pub record IsDeclared (ps : List RProc) (b : ℕ) (r : Routine) : Type 0 where
   pub there : slice_get ps r.number ≡ Some its
   pub home : IsHome ps b its.around
   pub level_is : r.level ≡ suc (length its.around)
+  pub sort_is : its.sort ≡ r.sort
 
 -- the variables of the procedure with which a chain begins, those of the module where there is none
 abbrev pub own_of : List RVar → List (List RVar) → List ℕ → List RVar
 own_of vs ls [] = vs
 own_of vs ls (n ∷ ns) = locals_in ls n
+
+-- what a variable of this mode means lies in it or where it leads to: it is no open array
+abbrev pub HasPassing : Mode → Type 0
+HasPassing m = (p : RPassing) × (passing_of m ≡ Some p)
+
+-- no parameter
+abbrev pub IsPlain : Mode → Type 0
+IsPlain m = m ≡ mode.Plain
+
+-- those of the module are no parameters
+abbrev pub IsRooted : List ℕ → Mode → Type 0
+IsRooted [] m = IsPlain m
+IsRooted (n ∷ ns) m = HasPassing m
 
 -- a variable that is declared in a block
 pub record IsOwn (ps : List RProc) (vs : List RVar) (ls : List (List RVar)) (b : ℕ) (v : Variable) : Type 0 where
@@ -125,6 +143,8 @@ pub record IsOwn (ps : List RProc) (vs : List RVar) (ls : List (List RVar)) (b :
   pub its : RVar
   pub there : slice_get (own_of vs ls chain) v.number ≡ Some its
   pub sort_is : its.sort ≡ v.sort
+  pub mode_is : its.mode ≡ v.mode
+  pub rooted : IsRooted chain v.mode
 
 -- a block that names see from within a chain of procedures: that of the standard names, or one of the chain
 abbrev pub OnPath : List RProc → List ℕ → ℕ → Type 0
@@ -166,26 +186,30 @@ pub record Stands (outer : List ℕ) (inner : ℕ) (ps : List RProc) (at : Optio
   pub few : length (chain_by ps at) ≤ length ps
   pub there : IfSome at (λ n. (q : RProc) × (slice_get ps n ≡ Some q))
 
--- ---- calls: a procedure by its number, so many procedures out of those at hand
-pub record IsSeen (ps : List RProc) (chain : List ℕ) (number levels : ℕ) : Type 0 where
+-- ---- calls: a procedure of this procedure type by its number, so many procedures out of those at hand
+pub record IsSeen (ps : List RProc) (chain : List ℕ) (sort number levels : ℕ) : Type 0 where
   pub its : RProc
   pub there : slice_get ps number ≡ Some its
+  pub sort_is : its.sort ≡ sort
   pub declared : kinds.Declared chain levels its.around
   pub low : number < 250
   pub few : levels < 256
 
--- ---- variables: one that is seen from within a chain of procedures, of this type
-pub record IsShown (vs : List RVar) (ls : List (List RVar)) (chain : List ℕ) (o : Option RNamed) (sort : ℕ) : Type 0 where
+-- ---- variables: one that is seen from within a chain of procedures, and leads somewhere
+pub record IsShown (vs : List RVar) (ls : List (List RVar)) (chain : List ℕ) (o : Option RNamed) (v : Variable) : Type 0 where
   pub named : RNamed
   pub is : o ≡ Some named
   pub its : RVar
   pub there : seen_in vs ls chain named ≡ Some its
-  pub sort_is : its.sort ≡ sort
+  pub sort_is : its.sort ≡ v.sort
+  pub mode_is : its.mode ≡ v.mode
+  pub root : RRoot
+  pub leads : root_of its.mode named ≡ Some root
 
 -- what a thing is to the procedure at hand
 abbrev pub Seen : List RProc → List ℕ → Env → Thing → Type 0
-Seen ps chain e (thing.Procedure r) = IsSeen ps chain r.number (levels_out e r.level)
-Seen ps chain e (thing.Variable v) = IsShown e.variables e.locals chain (named_at e v) v.sort
+Seen ps chain e (thing.Procedure r) = IsSeen ps chain r.sort r.number (levels_out e r.level)
+Seen ps chain e (thing.Variable v) = IsShown e.variables e.locals chain (named_at e v) v
 Seen ps chain e (thing.Module b) = IsModule (length e.scopes.blocks) ps b
 Seen ps chain e _ = Unit {0}
 
@@ -209,10 +233,10 @@ module _ (ps qs : List RProc) (longer : Longer ps qs) where
   home_stays b chain (inr h) = inr (record { number = h.number; its = h.its; there = longer h.number h.its h.there; block = h.block; chain_is = h.chain_is })
 
   declared_stays : (b : ℕ) (r : Routine) → IsDeclared ps b r → IsDeclared qs b r
-  declared_stays b r h = record { its = h.its; there = longer r.number h.its h.there; home = home_stays b h.its.around h.home; level_is = h.level_is }
+  declared_stays b r h = record { its = h.its; there = longer r.number h.its h.there; home = home_stays b h.its.around h.home; level_is = h.level_is; sort_is = h.sort_is }
 
   own_stays : (vs ws : List RVar) (ls ms : List (List RVar)) → Longer vs ws → AllLonger ls ms → (b : ℕ) (v : Variable) → IsOwn ps vs ls b v → IsOwn qs ws ms b v
-  own_stays vs ws ls ms more locals b v h = record { chain = h.chain; home = home_stays b h.chain h.home; level_is = h.level_is; its = h.its; there = by h.chain h.there; sort_is = h.sort_is }
+  own_stays vs ws ls ms more locals b v h = record { chain = h.chain; home = home_stays b h.chain h.home; level_is = h.level_is; its = h.its; there = by h.chain h.there; sort_is = h.sort_is; mode_is = h.mode_is; rooted = h.rooted }
     where
       by : (chain : List ℕ) → slice_get (own_of vs ls chain) v.number ≡ Some h.its → slice_get (own_of ws ms chain) v.number ≡ Some h.its
       by [] is = more v.number h.its is
@@ -278,16 +302,26 @@ first_left (suc n) (x ∷ xs) y ys is = first_left n xs y ys is
 abbrev named_from : ℕ → Variable → Option RNamed
 named_from count v = if v.level == 1 then Some (named.Module v.number) else level_named (count - v.level) v.number
 
-shown_out : (vs : List RVar) (ls : List (List RVar)) (chain own : List ℕ) (v : Variable) (x : RVar) → IsRest chain own → length chain ≤ 250 → v.level ≡ suc (length own) → slice_get (own_of vs ls own) v.number ≡ Some x → x.sort ≡ v.sort
-    → IsShown vs ls chain (named_from (suc (length chain)) v) v.sort
-shown_out vs ls chain [] v x rest few at there sort = record {
+level_root : (m : Mode) (l x : ℕ) → HasPassing m → (r : RRoot) × (root_of m (named.Level l x) ≡ Some r)
+level_root mode.Plain l x h = (_, refl)
+level_root mode.Value l x h = (_, refl)
+level_root mode.Place l x h = (_, refl)
+level_root mode.OpenValue l x h = absurd (none-some h.0 h.1)
+level_root mode.OpenPlace l x h = absurd (none-some h.0 h.1)
+
+shown_out : (vs : List RVar) (ls : List (List RVar)) (chain own : List ℕ) (v : Variable) (x : RVar) → IsRest chain own → length chain ≤ 250 → v.level ≡ suc (length own) → slice_get (own_of vs ls own) v.number ≡ Some x → x.sort ≡ v.sort → x.mode ≡ v.mode → IsRooted own v.mode
+    → IsShown vs ls chain (named_from (suc (length chain)) v) v
+shown_out vs ls chain [] v x rest few at there sort mode rooted = record {
   named = named.Module v.number;
   is = ap (λ (n : ℕ). if n == 1 then Some (named.Module v.number) else level_named (suc (length chain) - v.level) v.number) at;
   its = x;
   there = there;
   sort_is = sort;
+  mode_is = mode;
+  root = _;
+  leads = ap (λ (m : Mode). root_of m (named.Module v.number)) (mode ∙ rooted);
 }
-shown_out vs ls chain (p ∷ own) v x rest few at there sort =
+shown_out vs ls chain (p ∷ own) v x rest few at there sort mode rooted =
     let long : suc (length own) ≡ length chain - rest.0 = ap length rest.2 ∙ length-drop rest.0 chain in
     let inner : (v.level == 1) ≡ false = grind (arith, nat_tests, at) in
     let out : suc (length chain) - v.level ≡ rest.0 = omega (arith, at, long) in
@@ -298,6 +332,9 @@ shown_out vs ls chain (p ∷ own) v x rest few at there sort =
       its = x;
       there = ap (λ (o : Option ℕ). slice_get (locals_out ls o) v.number) (first_left rest.0 chain p own rest.2) ∙ there;
       sort_is = sort;
+      mode_is = mode;
+      root = (level_root v.mode rest.0 v.number rooted).0;
+      leads = ap (λ (m : Mode). root_of m (named.Level rest.0 v.number)) mode ∙ (level_root v.mode rest.0 v.number rooted).1;
     }
 
 module _ (bs : List Names) (ps : List RProc) (vs : List RVar) (ls : List (List RVar)) (h : Homed bs ps vs ls) where
@@ -317,20 +354,21 @@ module _ (bs : List Names) (ps : List RProc) (vs : List RVar) (ls : List (List R
   rest_of chain b around (inr on) home = (on.1.0, on.1.1, home_one b around on.0 home on.2 ∙ on.1.2)
 
   module _ (s : Scopes) (same : s.blocks ≡ bs) (at : Option ℕ) (stands : Stands s.outer s.inner ps at) where
-    declared_seen : (b : ℕ) (r : Routine) → OnPath ps (chain_by ps at) b → IsDeclared ps b r → IsSeen ps (chain_by ps at) r.number (if nat_lt 1 r.level then length s.outer + 1 - r.level else 0)
+    declared_seen : (b : ℕ) (r : Routine) → OnPath ps (chain_by ps at) b → IsDeclared ps b r → IsSeen ps (chain_by ps at) r.sort r.number (if nat_lt 1 r.level then length s.outer + 1 - r.level else 0)
     declared_seen b r on d =
         let out = declared_out (chain_by ps at) d.its.around r.level (length s.outer) (rest_of (chain_by ps at) b d.its.around on d.home) d.level_is stands.path.level_is in
         record {
           its = d.its;
           there = d.there;
+          sort_is = d.sort_is;
           declared = out.0;
           low = omega (arith, slice_get_within ps r.number d.its d.there, h.few);
           few = omega (arith, out.1, stands.few, h.few);
         }
 
-    own_seen : (b : ℕ) (v : Variable) → OnPath ps (chain_by ps at) b → IsOwn ps vs ls b v → IsShown vs ls (chain_by ps at) (named_from (length s.outer) v) v.sort
-    own_seen b v on o = subst (λ (n : ℕ). IsShown vs ls (chain_by ps at) (named_from n v) v.sort) (sym stands.path.level_is)
-        (shown_out vs ls (chain_by ps at) o.chain v o.its (rest_of (chain_by ps at) b o.chain on o.home) (omega (arith, stands.few, h.few)) o.level_is o.there o.sort_is)
+    own_seen : (b : ℕ) (v : Variable) → OnPath ps (chain_by ps at) b → IsOwn ps vs ls b v → IsShown vs ls (chain_by ps at) (named_from (length s.outer) v) v
+    own_seen b v on o = subst (λ (n : ℕ). IsShown vs ls (chain_by ps at) (named_from n v) v) (sym stands.path.level_is)
+        (shown_out vs ls (chain_by ps at) o.chain v o.its (rest_of (chain_by ps at) b o.chain on o.home) (omega (arith, stands.few, h.few)) o.level_is o.there o.sort_is o.mode_is o.rooted)
 
     abbrev Found : List ℕ → Thing → Type 0
     Found n x = Stood bs (OnPath ps (chain_by ps at)) n x
@@ -338,10 +376,10 @@ module _ (bs : List Names) (ps : List RProc) (vs : List RVar) (ls : List (List R
     found_there : (n : List ℕ) (x : Thing) → find s n ≡ Some x → Found n x
     found_there n x is = stood bs (OnPath ps (chain_by ps at)) n x s same stands.path.blocks (inr (chain_by ps at, (0, omega arith, refl), stands.path.own)) is
 
-    pub found_procedure : (n : List ℕ) (r : Routine) → find s n ≡ Some (thing.Procedure r) → IsSeen ps (chain_by ps at) r.number (if nat_lt 1 r.level then length s.outer + 1 - r.level else 0)
+    pub found_procedure : (n : List ℕ) (r : Routine) → find s n ≡ Some (thing.Procedure r) → IsSeen ps (chain_by ps at) r.sort r.number (if nat_lt 1 r.level then length s.outer + 1 - r.level else 0)
     found_procedure n r is = let f = found_there n (thing.Procedure r) is in declared_seen f.block r f.here (h.names f.block n r f.there)
 
-    pub found_variable : (n : List ℕ) (v : Variable) → find s n ≡ Some (thing.Variable v) → IsShown vs ls (chain_by ps at) (named_from (length s.outer) v) v.sort
+    pub found_variable : (n : List ℕ) (v : Variable) → find s n ≡ Some (thing.Variable v) → IsShown vs ls (chain_by ps at) (named_from (length s.outer) v) v
     found_variable n v is = let f = found_there n (thing.Variable v) is in own_seen f.block v f.here (h.variables f.block n v f.there)
 
     pub found_module : (n : List ℕ) (b : ℕ) → find s n ≡ Some (thing.Module b) → IsModule (length bs) ps b
@@ -351,17 +389,17 @@ module _ (bs : List Names) (ps : List RProc) (vs : List RVar) (ls : List (List R
     module_path b is = inr ([], (length (chain_by ps at), omega arith, none_left (chain_by ps at)), inl (is, refl))
 
     -- a module that is imported has no procedures and variables of the text but those of the module
-    pub member_procedure : (b : ℕ) (n : List ℕ) (r : Routine) → IsModule (length bs) ps b → look_in (block_at bs b) n ≡ Some (thing.Procedure r) → IsSeen ps (chain_by ps at) r.number (if nat_lt 1 r.level then length s.outer + 1 - r.level else 0)
+    pub member_procedure : (b : ℕ) (n : List ℕ) (r : Routine) → IsModule (length bs) ps b → look_in (block_at bs b) n ≡ Some (thing.Procedure r) → IsSeen ps (chain_by ps at) r.sort r.number (if nat_lt 1 r.level then length s.outer + 1 - r.level else 0)
     member_procedure b n r m is = by (h.names b n r is) (h.names b n r is).home
       where
-        by : (d : IsDeclared ps b r) → IsHome ps b d.its.around → IsSeen ps (chain_by ps at) r.number (if nat_lt 1 r.level then length s.outer + 1 - r.level else 0)
+        by : (d : IsDeclared ps b r) → IsHome ps b d.its.around → IsSeen ps (chain_by ps at) r.sort r.number (if nat_lt 1 r.level then length s.outer + 1 - r.level else 0)
         by d (inl x) = declared_seen b r (module_path b x.0) d
         by d (inr o) = absurd (omega (arith, m.below o.number o.its o.there, o.block))
 
-    pub member_variable : (b : ℕ) (n : List ℕ) (v : Variable) → IsModule (length bs) ps b → look_in (block_at bs b) n ≡ Some (thing.Variable v) → IsShown vs ls (chain_by ps at) (named_from (length s.outer) v) v.sort
+    pub member_variable : (b : ℕ) (n : List ℕ) (v : Variable) → IsModule (length bs) ps b → look_in (block_at bs b) n ≡ Some (thing.Variable v) → IsShown vs ls (chain_by ps at) (named_from (length s.outer) v) v
     member_variable b n v m is = by (h.variables b n v is) (h.variables b n v is).home
       where
-        by : (o : IsOwn ps vs ls b v) → IsHome ps b o.chain → IsShown vs ls (chain_by ps at) (named_from (length s.outer) v) v.sort
+        by : (o : IsOwn ps vs ls b v) → IsHome ps b o.chain → IsShown vs ls (chain_by ps at) (named_from (length s.outer) v) v
         by o (inl x) = own_seen b v (module_path b x.0) o
         by o (inr x) = absurd (omega (arith, m.below x.number x.its x.there, x.block))
 
@@ -420,12 +458,23 @@ pub last_there : {A : Type 0} (xs : List A) (x : A) → slice_get (xs ++ x ∷ [
 last_there [] x = refl
 last_there (y ∷ xs) x = last_there xs x
 
-none_more : (ls : List (List RVar)) → AllLonger ls (ls ++ [] ∷ [])
-none_more [] p n v is = absurd (none-some v is)
-none_more (vs ∷ ls) zero n v is = is
-none_more (vs ∷ ls) (suc p) n v is = none_more ls p n v is
+module _ (ws : List RVar) where
+  locals_more : (ls : List (List RVar)) → AllLonger ls (ls ++ ws ∷ [])
+  locals_more [] p n v is = absurd (none-some v is)
+  locals_more (vs ∷ ls) zero n v is = is
+  locals_more (vs ∷ ls) (suc p) n v is = locals_more ls p n v is
 
-module _ (bs : List Names) (ps : List RProc) (vs : List RVar) (ls : List (List RVar)) (outer : List ℕ) (inner : ℕ) (at : Option ℕ) (h : Homed bs ps vs ls) (stands : Stands outer inner ps at) (room : length ps < 250) (name : List ℕ) (sort : ℕ) where
+  pub last_locals : (ls : List (List RVar)) → locals_in (ls ++ ws ∷ []) (length ls) ≡ ws
+  last_locals [] = refl
+  last_locals (vs ∷ ls) = last_locals ls
+
+-- what names of the block of a procedure mean that is declared at a level, as long as it has but parameters: these, by their numbers
+abbrev pub IsParameter : List RVar → ℕ → Thing → Type 0
+IsParameter ws at (thing.Variable v) = (v.level ≡ at) × HasPassing v.mode × ((its : RVar) × (slice_get ws v.number ≡ Some its) × (its.sort ≡ v.sort) × (its.mode ≡ v.mode))
+IsParameter ws at _ = ⊥
+
+module _ (bs : List Names) (ps : List RProc) (vs : List RVar) (ls : List (List RVar)) (outer : List ℕ) (inner : ℕ) (at : Option ℕ) (h : Homed bs ps vs ls) (stands : Stands outer inner ps at) (room : length ps < 250) (name : List ℕ) (sort : ℕ)
+    (block : Names) (ws : List RVar) (given : (m : List ℕ) (x : Thing) → look_in block m ≡ Some x → IsParameter ws (length outer + 1) x) where
   abbrev pub own : RProc
   own = record { name = name; block = length bs; outer = outer ++ inner ∷ []; around = chain_by ps at; sort = sort }
 
@@ -442,7 +491,7 @@ module _ (bs : List Names) (ps : List RProc) (vs : List RVar) (ls : List (List R
   longer_by = length_push ps own
 
   its_declared : IsDeclared more inner routine
-  its_declared = record { its = own; there = last_there ps own; home = home_stays ps more longer inner (chain_by ps at) stands.path.own; level_is = stands.path.level_is }
+  its_declared = record { its = own; there = last_there ps own; home = home_stays ps more longer inner (chain_by ps at) stands.path.own; level_is = stands.path.level_is; sort_is = refl }
 
   deeper : (b : ℕ) → OnPath more (chain_by ps at) b → OnPath more (length ps ∷ chain_by ps at) b
   deeper b (inl none) = inl none
@@ -458,33 +507,47 @@ module _ (bs : List Names) (ps : List RProc) (vs : List RVar) (ls : List (List R
     low = (room, stands.path.low);
   }
 
-  pub homed_procedure : (n : List ℕ) (e : Entry) → e.thing ≡ thing.Procedure routine → Homed (bound_at (bs ++ [] ∷ []) inner n e) more vs (ls ++ [] ∷ [])
+  parameter_own : (b : ℕ) (v : Variable) → b ≡ length bs → IsParameter ws (length outer + 1) (thing.Variable v) → IsOwn more vs (ls ++ ws ∷ []) b v
+  parameter_own b v here p = record {
+    chain = length ps ∷ chain_by ps at;
+    home = inr (record { number = length ps; its = own; there = last_there ps own; block = sym here; chain_is = refl });
+    level_is = omega (arith, p.0, stands.path.level_is);
+    its = p.2.0;
+    there = ap (λ (n : ℕ). slice_get (locals_in (ls ++ ws ∷ []) n) v.number) (sym h.each) ∙ ap (λ (xs : List RVar). slice_get xs v.number) (last_locals ws ls) ∙ p.2.1;
+    sort_is = p.2.2;
+    mode_is = p.2.3;
+    rooted = p.1;
+  }
+
+  pub homed_procedure : (n : List ℕ) (e : Entry) → e.thing ≡ thing.Procedure routine → Homed (bound_at (bs ++ block ∷ []) inner n e) more vs (ls ++ ws ∷ [])
   homed_procedure n e is_routine = record {
     two = omega (arith, count, h.two);
     names = λ b m r is. ⊎_elim
-        (λ (before : look_in (block_at (bs ++ [] ∷ []) b) m ≡ Some (thing.Procedure r)). declared_stays ps more longer b r (h.names b m r (look_begun bs b m (thing.Procedure r) before)))
+        (λ (before : look_in (block_at (bs ++ block ∷ []) b) m ≡ Some (thing.Procedure r)). ⊎_elim (λ old. declared_stays ps more longer b r (h.names b m r old)) (λ mine. absurd (given m (thing.Procedure r) mine.1)) (look_last bs block b m (thing.Procedure r) before))
         (λ (new : (b ≡ inner) × (thing.Procedure r ≡ e.thing)). subst (λ (c : ℕ). IsDeclared more c r) (sym new.0) (subst (IsDeclared more inner) (sym (same_routine r (new.1 ∙ is_routine))) its_declared))
-        (look_more (bs ++ [] ∷ []) inner n e b m (thing.Procedure r) is);
+        (look_more (bs ++ block ∷ []) inner n e b m (thing.Procedure r) is);
     variables = λ b m v is. ⊎_elim
-        (λ (before : look_in (block_at (bs ++ [] ∷ []) b) m ≡ Some (thing.Variable v)). own_stays ps more longer vs vs ls (ls ++ [] ∷ []) (λ n x is. is) (none_more ls) b v (h.variables b m v (look_begun bs b m (thing.Variable v) before)))
+        (λ (before : look_in (block_at (bs ++ block ∷ []) b) m ≡ Some (thing.Variable v)). ⊎_elim
+        (λ old. own_stays ps more longer vs vs ls (ls ++ ws ∷ []) (λ n x is. is) (locals_more ws ls) b v (h.variables b m v old))
+        (λ mine. parameter_own b v mine.0 (given m (thing.Variable v) mine.1)) (look_last bs block b m (thing.Variable v) before))
         (λ (new : (b ≡ inner) × (thing.Variable v ≡ e.thing)). absurd (let clash : thing.Variable v ≡ thing.Procedure routine = new.1 ∙ is_routine in cc))
-        (look_more (bs ++ [] ∷ []) inner n e b m (thing.Variable v) is);
+        (look_more (bs ++ block ∷ []) inner n e b m (thing.Variable v) is);
     modules = λ b m j is. ⊎_elim
-        (λ (before : look_in (block_at (bs ++ [] ∷ []) b) m ≡ Some (thing.Module j)). module_more j (h.modules b m j (look_begun bs b m (thing.Module j) before)))
+        (λ (before : look_in (block_at (bs ++ block ∷ []) b) m ≡ Some (thing.Module j)). ⊎_elim (λ old. module_more j (h.modules b m j old)) (λ mine. absurd (given m (thing.Module j) mine.1)) (look_last bs block b m (thing.Module j) before))
         (λ (new : (b ≡ inner) × (thing.Module j ≡ e.thing)). absurd (let clash : thing.Module j ≡ thing.Procedure routine = new.1 ∙ is_routine in cc))
-        (look_more (bs ++ [] ∷ []) inner n e b m (thing.Module j) is);
+        (look_more (bs ++ block ∷ []) inner n e b m (thing.Module j) is);
     blocks = λ i q is. ⊎_elim (λ (before : slice_get ps i ≡ Some q). block_later (length bs) (length all) ps more i q (omega (arith, count)) longer (h.blocks i q before))
         (λ (new : (i ≡ length ps) × (own ≡ q)). subst (λ (k : ℕ). IsBlock (length all) more k q) (sym new.0) (subst (IsBlock (length all) more (length ps)) new.1 its_block)) (at_end ps own q i is);
     apart = λ i j q p there also same. by i j q p same (at_end ps own q i there) (at_end ps own p j also);
     few = omega (arith, longer_by, room);
-    each = omega (arith, longer_by, length_push ls [], h.each);
+    each = omega (arith, longer_by, length_push ls ws, h.each);
   }
     where
       all : List Names
-      all = bound_at (bs ++ [] ∷ []) inner n e
+      all = bound_at (bs ++ block ∷ []) inner n e
 
       count : length all ≡ length bs + 1
-      count = bound_many (bs ++ [] ∷ []) inner n e ∙ length_push bs []
+      count = bound_many (bs ++ block ∷ []) inner n e ∙ length_push bs block
 
       same_routine : (r : Routine) → thing.Procedure r ≡ thing.Procedure routine → r ≡ routine
       same_routine r is = cc

@@ -17,7 +17,7 @@ module _ (P : Thing → Type 0) where
   abbrev pub AreSo : Names → Type 0
   AreSo b = AllFine (λ (x : List ℕ × Entry). P x.1.thing) b
 
-  look_is : (b : Names) (n : List ℕ) → AreSo b → IfSome (look_in b n) P
+  pub look_is : (b : Names) (n : List ℕ) → AreSo b → IfSome (look_in b n) P
   look_is [] n h = tt
   look_is (x ∷ xs) n h = by (same n x.0) (look_is xs n h.1)
     where
@@ -45,7 +45,7 @@ module _ (P : Thing → Type 0) where
   member_is s k n h = look_is (block_at s.blocks k) n (block_is s.blocks k h)
 
   -- ---- a name bound in a block
-  bound_is : (b : Names) (n : List ℕ) (e : Entry) → AreSo b → P e.thing → AreSo (bound b n e)
+  pub bound_is : (b : Names) (n : List ℕ) (e : Entry) → AreSo b → P e.thing → AreSo (bound b n e)
   bound_is b n e h j = by (is_new b n)
     where
       by : (c : Bool) → AreSo (if c then b ++ (n, e) ∷ [] else b)

@@ -1,10 +1,12 @@
 -- What designators reach is told, and so is what is used of it.
 use Rattle.std.proofs.Common.{◌≡◌, ℕ, ◌+◌, ◌≤◌, Bool, true, false, not, ◌&&◌, List, [], length, slice_get, Option, Some, None, IfSome, if◌then◌else◌, refl, sym, ap, subst, ◌∙◌, arith, true≢false}
 use Rattle.std.specs.Prelude.{max, is_none}
+use Rattle.std.proofs.lemmas.Option.{none-some}
 use Rattle.lil_base.specs.declared.fault.{Place.Place, FaultKind.{FaultKind, TheVariants.{NotRecord, NotPointer}}}
 use Rattle.lil_text.specs.declared.tree.Ident.{Ident}
 use Rattle.lil_types.specs.Types.{Table}
-use Rattle.lil_declared.specs.declared.declared.RVar.{RVar}
+use Rattle.lil_declared.specs.declared.declared.{Mode.Mode, RVar.RVar}
+use Rattle.lil_declared.specs.declared.declared.Mode.TheVariants as mode
 use Rattle.lil_scope.specs.{Built.built, Names.{member, waits_for, chain}, declared.{env.Env.Env, thing.{Thing.Thing, Variable.Variable}}}
 use Rattle.lil_scope.specs.declared.thing.Kind.TheVariants as k
 use Rattle.lil_scope.specs.declared.thing.Thing.TheVariants as t
@@ -23,7 +25,7 @@ use Rattle.lil_check_value.specs.{declared.{designators.{Named.Named, Part.Part,
 use Rattle.lil_check_value.specs.Designators.{place_named, variable_place, kind_by, whole_part, thing_reached, held_field, name_node, root_means, is_misplaced, refused_rows, record_kind, field_of, field_found, field_value, part_field, module_block, other_field_by, other_field, field_node, parts_of, with_index, index_fits, element_found, element_value, index_rows, part_index, other_index, index_node, opaque_kind, target_of, target_found, target_value, part_follow, is_waiting, reached_follow, other_follow, follow_node, located_form, part_found, no_value, is_procedure, text_form, thing_found, named_value, value_node, variable_node, part_callee, thing_callee, callee_node, type_in, no_type_in, part_typed, typed_node}
 use Rattle.lil_check_value.specs.declared.designators.Reached.TheVariants as reached
 use Rattle.lil_right_call.specs.Told.{ArgumentTold, CalleeTold}
-use Rattle.lil_right_type.specs.{Found.{KindTold, LiesAt, GoesWith, bare, IsLocated, HasPlace, IsFound, ThingTold, EnvTold}, Homes.{IsModule, IsSeen, Seen}, Parts.{IsArray, IsPointer, array_is, field_is, target_is, never_opaque}, Right.{Clear, Right, IsThere, IsThereOr, there_or, is_so}, Typed.{Suits, kept_if, assignable_stores, stores_suits}, Types.{IsOrdinal, known_ordinal}}
+use Rattle.lil_right_type.specs.{Found.{KindTold, LiesAt, GoesWith, bare, IsLocated, HasPlace, IsFound, ThingTold, EnvTold}, Homes.{HasPassing, IsModule, IsSeen, Seen}, Parts.{IsArray, IsPointer, array_is, field_is, target_is, never_opaque}, Right.{Clear, Right, IsThere, IsThereOr, there_or, is_so}, Typed.{Suits, kept_if, assignable_stores, stores_suits}, Types.{IsOrdinal, known_ordinal}}
 use Rattle.lil_right_value.specs.{Names.{SeenTold, LookTold, look_told, looked_told, member_seen}, Operators.{IsRaised, raised_is}}
 
 -- ---- depths of places
@@ -32,6 +34,7 @@ root_depth r s = ap place_depth (placed_is r []) ∙ by r
   where
     by : (r : RRoot) → place_depth (root_view r) ≡ 1
     by (root.Variable n) = refl
+    by (root.Handed l x) = refl
     by (root.Held w) = refl
 
 field_depth : (p : RPlace) (i : ℕ) → place_depth (place_of (further p (part.Field i))) ≡ place_depth (place_of p)
@@ -90,8 +93,8 @@ module _ (e : Env) (P : Property e.types (seen e) e.withs) (told : EnvTold e) wh
   NamedTold x = ThingTold e.types e.texts x × (built x ≡ true) × (is_other x ≡ true) × Seen e.procedures (chain e) e x
 
   -- calls of procedures that are seen here
-  abbrev pub Called : ℕ → ℕ → Type 0
-  Called n levels = IsSeen e.procedures (chain e) n levels
+  abbrev pub Called : ℕ → ℕ → ℕ → Type 0
+  Called s n levels = IsSeen e.procedures (chain e) s n levels
 
   abbrev pub ReachedTold : Reached → Type 0
   ReachedTold (reached.Part a) = PartTold P a
@@ -104,11 +107,19 @@ module _ (e : Env) (P : Property e.types (seen e) e.withs) (told : EnvTold e) wh
   variable_told : (p q : Place) (v : Variable) → SeenTold e (t.Variable v) → IsThere ReachedTold (thing_reached e p q (t.Variable v))
   variable_told p q v h =
       let x = h.1 in
-      subst (λ mode. PartTold P (whole_part p q (variable_place e v) (kind_by mode v.sort))) (sym h.0.0)
+      subst (λ kind. PartTold P (whole_part p q (variable_place e v) kind)) (sym (closed v.mode h.0.0))
       (whole_told p q (variable_place e v) v.sort h.0.1
       (subst (λ o. IsThere (LiesAt P v.sort 1) (place_named e o)) (sym x.is)
-      (subst (λ o. IsThere (LiesAt P v.sort 1) (places.variable_at x.named o)) (sym x.there) record { sort = x.sort_is; deep = at_most (root_depth (root.Variable x.named) x.its.sort); good = P.variable x.named x.its x.there })))
+      (subst (λ o. IsThere (LiesAt P v.sort 1) (places.variable_at x.named o)) (sym x.there)
+      (subst (λ o. IsThere (LiesAt P v.sort 1) (places.located_at x.its.sort o)) (sym x.leads) record { sort = x.sort_is; deep = at_most (root_depth x.root x.its.sort); good = P.variable x.named x.its x.root x.there x.leads }))))
     where
+      closed : (m : Mode) → HasPassing m → kind_by m v.sort ≡ k.Of v.sort
+      closed mode.Plain h = refl
+      closed mode.Value h = refl
+      closed mode.Place h = refl
+      closed mode.OpenValue h = absurd (none-some h.0 h.1)
+      closed mode.OpenPlace h = absurd (none-some h.0 h.1)
+
       at_most : {n : ℕ} → n ≡ 1 → n ≤ 1 + 1
       at_most is = omega (arith, is)
 

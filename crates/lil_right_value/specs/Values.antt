@@ -164,6 +164,6 @@ module _ (e : Env) (P : Property e.types (seen e) e.withs) (told : EnvTold e) (s
   pub variable_means_right : (d : Designator) → Right (IsThere (λ a. IsFound P a × IsLocated a.form)) (variable_means e d)
   variable_means_right = variable_true Clearly lifts e (truths e P told ⊥ (none_waits e.waits settled)) (nodes e P told ⊥ (none_waits e.waits settled)) (IsThere (λ a. IsFound P a × IsLocated a.form)) (variable_right e P told)
 
-pub call_means_right : (e : Env) {ts : Scope} (fits : Fits e.types (seen e) e.withs ts) → EnvTold e → e.waits ≡ [] → Calls (IsSeen e.procedures (chain e)) ts → (looping : Bool) (d : Designator) (xs : List Expr) → Right (IsThere (StatementSound ts looping)) (call_means e d xs)
+pub call_means_right : (e : Env) {ts : Scope} (fits : Fits e.types (seen e) e.withs ts) → EnvTold e → e.waits ≡ [] → Calls e.types (IsSeen e.procedures (chain e)) ts → (looping : Bool) (d : Designator) (xs : List Expr) → Right (IsThere (StatementSound ts looping)) (call_means e d xs)
 call_means_right e {ts} fits told settled calls looping =
     call_true Clearly lifts e (truths e (soundness fits) told ⊥ (none_waits e.waits settled)) (nodes e (soundness fits) told ⊥ (none_waits e.waits settled)) (IsThere (StatementSound ts looping)) (statement_node_right fits told.types looping (IsSeen e.procedures (chain e)) calls)

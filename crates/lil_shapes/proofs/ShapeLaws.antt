@@ -1,11 +1,11 @@
 -- Shapes one behind another: their words, one more at the end, and the shapes of records and of all types that are made.
 use Rattle.std.proofs.Common.{◌≡◌, ℕ, zero, suc, ◌+◌, ◌<◌, ◌≤◌, nat_le, List, [], ◌∷◌, ◌++◌, length, map, take, drop, get_or, slice_get, Option, None, Some, inl, inr, refl, sym, ap, subst, ◌∙◌, add-one, arith}
 use Rattle.std.specs.Option.{option_map}
-use Rattle.std.proofs.{lemmas.{Bool.{cond-false, cases_lt, Decides.nat_tests}, List.{map-append, map_push}, Option.{same_Some, slice_get_within}}, Math.Seq.split_at}
+use Rattle.std.proofs.{lemmas.{Bool.{cond-false, cases_lt, Decides.nat_tests}, List.{map-append, map_push}, Option.{same_Some, slice_get_within, slice_get-map}}, Math.Seq.split_at}
 use Rattle.lil_types.specs.{Types.Table, declared.table.Field.Field}
-use Rattle.lil_resolved.specs.{Kinds.{Shape, words, all_words, offsets_from, shape_by, shape_at, fields_of}, Views.{number_of, shape_with, shapes_behind, shapes_of, AreMeasuredFields, IsMeasuredShape, AreMeasured}, declared.shapes.{RField.RField, RShape.RShape}}
+use Rattle.lil_resolved.specs.{Plain.{IsPlain, plain_at}, Kinds.{Shape, Absent, Word, Blank, Join, Row, Address, Opened, words, all_words, offsets_from, shape_by, shape_at, fields_of}, Views.{number_of, shape_with, shapes_behind, shapes_of, AreMeasuredFields, IsMeasuredShape, AreMeasured}, declared.shapes.{RField.RField, RShape.RShape}}
 use Rattle.lil_resolved.specs.declared.shapes.RShape.TheVariants as r
-use Rattle.lil_shapes.specs.{declared.shapes.{Made.Made, Shaped.Shaped}, Measured.{size_of, behind, shapes_in, shape_made, IsShaped, IsMade}, Shaping.{all_some, within, field_shape, shape, with_next, shapes_below, shapes}, ListLaws.{some_append, some_more}}
+use Rattle.lil_shapes.specs.{declared.shapes.{Made.Made, Shaped.Shaped}, Measured.{size_of, words_by, behind, shapes_in, shape_made, IsShaped, IsMade}, Shaping.{all_some, within, field_shape, shape, with_next, shapes_below, shapes}, ListLaws.{some_append, some_more}}
 
 -- ---- words
 words_append : (ts us : List Shape) → all_words (ts ++ us) ≡ all_words ts + all_words us
@@ -160,3 +160,20 @@ none_on t n (suc k) h none = elim (cases_lt k n) [
 -- where a type has no shape, a module has none
 pub no_shapes : (t : Table) (n : ℕ) (before : List Shape) → n < 16 + length t → shapes_below t n ≡ Some before → None ≡ shape t before n → None ≡ shapes t
 no_shapes t n before h so_far none = sym (none_on t (suc n) (16 + length t) (omega arith) (shapes_stop t n before so_far none))
+
+-- ---- the words of a shape that is none of an address
+sized : (s : Shape) → IsPlain s → words_by (size_of s) ≡ words s
+sized Absent h = refl
+sized (Word k) h = refl
+sized Blank h = refl
+sized (Join a b) h = refl
+sized (Row n t) h = refl
+sized (Address t) h = absurd ((h t).0 refl)
+sized (Opened t) h = absurd ((h t).1 refl)
+
+pub words_sized : (ts : List RShape) (n : ℕ) (size : Option ℕ) → slice_get (map size_of (shapes_of ts)) n ≡ Some size → Some (words_by size) ≡ option_map words (slice_get (shapes_of ts) n)
+words_sized ts n size e = by (slice_get (shapes_of ts) n) (plain_at ts n) (sym (slice_get-map size_of (shapes_of ts) n) ∙ e)
+  where
+    by : (o : Option Shape) → IsPlain (shape_by o) → option_map size_of o ≡ Some size → Some (words_by size) ≡ option_map words o
+    by None plain e = absurd (cc)
+    by (Some s) plain e = ap Some (ap words_by (sym (same_Some (size_of s) size e)) ∙ sized s plain)

@@ -1,11 +1,11 @@
 ghost use Rattle.std.specs.Prelude.{◌≡◌, map, IfOk, MatchOption, None, Some};
-ghost use Rattle.lil_shapes.specs.Measured.{shapes_in, IsShaped, IsLaidFrom, IsLaid};
+ghost use Rattle.lil_shapes.specs.Measured.{shapes_in, words_held, IsShaped, IsLaidFrom, IsLaid};
 ghost use Rattle.lil_shapes.specs.Shaping as spec;
 
 use crate::shapes::{Shaped, size_at};
 use lil_base::{Items, Memory};
-use lil_declared::RVar;
-use lil_resolved::RDeclared;
+use lil_declared::{Mode, RVar};
+use lil_resolved::{RDeclared, RPassing};
 use std::alloc::Global;
 
 /// Variables one behind another, and how many words they take.
@@ -13,6 +13,27 @@ use std::alloc::Global;
 pub struct Laid {
     pub variables: Items<RDeclared>,
     pub words: u16,
+}
+
+/// How a variable holds what it means, None for an open array.
+fn passing_of(mode: Mode) -> Option<RPassing>
+    ensures { result ≡ spec.passing_of mode }
+{
+    match mode {
+        Mode::Plain | Mode::Value => Some(RPassing::ByValue),
+        Mode::Place => Some(RPassing::ByPlace),
+        Mode::OpenValue | Mode::OpenPlace => None,
+    }
+}
+
+/// The words of a variable: those that lie in it, or one for an address.
+fn words_held(passing: RPassing, size: u16) -> u16
+    ensures { result ≡ words_held passing size }
+{
+    match passing {
+        RPassing::ByValue => size,
+        RPassing::ByPlace => 1,
+    }
 }
 
 /// Variables from a word on, as far as words are counted. None where nothing lies in one.
@@ -23,6 +44,9 @@ fn lay_from(alloc: Global, types: &Shaped, of: &[RVar], first: u16) -> Result<Op
     let mut variables = Items::new(alloc);
     let mut words: u16 = 0;
     for one in of {
+        let Some(passing) = passing_of(one.mode) else {
+            return Ok(None);
+        };
         let Some(size) = size_at(types, one.sort) else {
             return Ok(None);
         };
@@ -31,8 +55,9 @@ fn lay_from(alloc: Global, types: &Shaped, of: &[RVar], first: u16) -> Result<Op
             name,
             offset: words.saturating_add(first),
             shape: one.sort as usize,
+            passing,
         })?;
-        words = words.saturating_add(size);
+        words = words.saturating_add(words_held(passing, size));
     }
     Ok(Some(Laid { variables, words }))
 }

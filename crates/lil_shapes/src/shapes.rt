@@ -82,6 +82,7 @@ fn words_by(size: Option<u16>) -> u16
 }
 
 /// The words of a type with a lesser number, None where it has none.
+#[tactic(auto, using(crate::proofs::ShapeLaws::words_sized))]
 fn words_at(before: &Shaped, sort: TypeId) -> Option<u16>
     requires { IsShaped before.now }
     ensures { result ≡ option_map words_of (slice_get (measured.shapes_in before.now) sort) }

@@ -2,10 +2,10 @@
 use Rattle.std.specs.Prelude.{◌≡◌, ℕ, ◌+◌, ◌%◌, ◌≤◌, min, pos, negsuc, ◌≤ℤ◌, Bool, true, List, [], ◌∷◌, length, Option, Some, None}
 use Rattle.std.specs.Option.{is_some, option_map}
 use Rattle.lil_base.specs.Words.{word_of}
-use Rattle.lil_resolved.specs.{declared.resolved.{RArgument.RArgument, RStmt.RStmt, RGuard.RGuard, RArm.RArm, RLabel.RLabel}, Kinds.{Kind, is_there, shape_at}, Resolved.{Designator, Expression, Argument, Label, Statement, Statements, shape_of}, Views.{argument_of, statement_of, guard_of, statements_of, label_of, shapes_of}, Sizes.{argument_strings, body_strings, statement_words, body_words}}
-use Rattle.lil_resolved.specs.Sound.{IsSoundPlace, IsSoundTarget, IsSoundStored, IsSoundArgument, IsSoundStatement, IsSoundBody}
+use Rattle.lil_resolved.specs.{declared.resolved.{RArgument.RArgument, RStmt.RStmt, RGuard.RGuard, RArm.RArm, RLabel.RLabel}, Kinds.{Kind, is_there, shape_at}, Resolved.{Designator, Expression, Argument, Label, Statement, Statements, shape_of}, Views.{argument_of, statement_of, guard_of, statements_of, label_of, shapes_of}, Sizes.{argument_words, argument_strings, body_strings, statement_words, body_words}}
+use Rattle.lil_resolved.specs.Sound.{IsSoundPlace, IsSoundTarget, IsSoundStored, IsSoundArgument, IsSingle, IsSoundStatement, IsSoundBody}
 use Rattle.lil_asm.specs.declared.instr.Instr.TheVariants.{Jmp, Trp}
-use Rattle.lil_table.specs.Rows.{IsAt, InstrsAt, Access, access_of, address_code, ready_code, readied, PlaceAt, ValueRow, TargetRow, argument_words, ArgumentAt, LeaveRow, AlignAt, StatementAt, BodyAt, loop_place}
+use Rattle.lil_table.specs.Rows.{IsAt, InstrsAt, Access, access_of, address_code, ready_code, readied, PlaceAt, ValueRow, TargetRow, ArgumentAt, PushedRow, LeaveRow, AlignAt, StatementAt, BodyAt, loop_place}
 use Rattle.lil_labels.specs.Drafts.{Final, Meaning, Each, EntryAt, ChoiceAt}
 
 -- a sound value that is stored at a place of a kind has its code and its test, where up to 3 words of others stand below its own
@@ -19,6 +19,10 @@ Argued a x p q = (n : ℕ) → IsSoundArgument x.layout.scope a → n + argument
 -- one of the arguments of a request, and the words of its strings
 abbrev pub ArgumentPart : RArgument → Meaning
 ArgumentPart g x p q = Argued (argument_of g) x p q
+
+-- one of those of a call: each of one word, which goes to the frame
+abbrev pub PushedPart : RArgument → Meaning
+PushedPart g x p q = IsSoundArgument x.layout.scope (argument_of g) → IsSingle (argument_of g) → PushedRow x.code (ArgumentAt x.layout x.code 0 (argument_of g)) p q
 
 abbrev pub argument_part : RArgument → List ℕ
 argument_part g = argument_strings (argument_of g)

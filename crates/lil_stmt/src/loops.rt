@@ -55,7 +55,7 @@ fn statement_words(statement: &RStmt) -> u16
         | RStmt::Exit
         | RStmt::Halt
         | RStmt::Return
-        | RStmt::Call(_, _) => 0,
+        | RStmt::Call(_, _, _) => 0,
     }
 }
 

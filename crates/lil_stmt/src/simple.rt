@@ -6,7 +6,7 @@ ghost use Rattle.lil_resolved.specs.{Resolved.{Assign, Copy, Change, Member, New
 ghost use Rattle.lil_asm.specs.Bytes.{Sayable};
 ghost use Rattle.lil_table.specs.Rows.{member_code, allocate_code};
 ghost use Rattle.lil_labels.specs.Drafts.{DoingAll, Each, Adds, Emits};
-ghost use Rattle.lil_stmt.specs.Generating.{Stated, Stored, Argued, ArgumentPart, argument_part};
+ghost use Rattle.lil_stmt.specs.Generating.{Stated, Stored, Argued, ArgumentPart, PushedPart, argument_part};
 
 use crate::kinds::{change_instr, counted_base};
 use crate::statements::Around;
@@ -194,13 +194,17 @@ fn emit_arguments(code: &mut CodeBuffer<'_>, given: &[RArgument]) -> Result<(), 
     Ok(())
 }
 
-/// Appends the code of an argument: a value and its test; or the address of an array or of a string, and the number of its
-/// last element.
+/// Appends the code of an argument: a value and its test; the address of a place; or the address of an array or of a string,
+/// and the number of its last element.
 fn emit_argument(code: &mut CodeBuffer<'_>, argument: &RArgument) -> Result<(), Memory>
     ensures { OnOk result (Adds (argument_strings (argument_of argument.now)) code.old code.new (Argued (argument_of argument.now))) }
 {
     match argument {
         RArgument::Value(kind, value) => emit_value(code, value, *kind),
+        RArgument::Place(place) => {
+            emit_address_of(code, place)?;
+            Ok(())
+        }
         RArgument::Array(place, high) => {
             emit_address_of(code, place)?;
             code.put(Instr::Liw(*high))
@@ -224,10 +228,35 @@ pub(crate) fn emit_exit(code: &mut CodeBuffer<'_>, around: Around) -> Result<(),
     }
 }
 
-/// Appends a call of a procedure without parameters, which is declared so many levels out: the mark, and the call itself.
-pub(crate) fn emit_call(code: &mut CodeBuffer<'_>, procedure: u8, levels: u8) -> Result<(), Memory>
-    ensures { OnOk result ((n : ℕ) (exit : Option ℕ) → Emits code.old code.new (Stated n exit (Call procedure levels))) }
+/// Appends a call of a procedure that is declared so many levels out: the mark, the arguments, each of which goes to the
+/// frame that the mark begins, and the call itself. A frame that more words go to than a store has is never entered.
+pub(crate) fn emit_call(
+    code: &mut CodeBuffer<'_>,
+    procedure: u8,
+    levels: u8,
+    given: &[RArgument],
+) -> Result<(), Memory>
+    ensures { OnOk result ((n : ℕ) (exit : Option ℕ) → Adds (arguments_strings (map argument_of given.now)) code.old code.new (Stated n exit (Call procedure levels (map argument_of given.now)))) }
 {
     code.put(Instr::Mrk(levels))?;
-    code.put(Instr::Cll(procedure, 0))
+    emit_given(code, given)?;
+    code.put(Instr::Cll(procedure, given.len().min(65_535) as u16))
+}
+
+/// Appends the code of the arguments of a call, each of one word.
+fn emit_given(code: &mut CodeBuffer<'_>, given: &[RArgument]) -> Result<(), Memory>
+    ensures { OnOk result (Adds (flat_map argument_part given.now) code.old code.new (Each PushedPart given.now)) }
+{
+    for argument in given {
+        emit_pushed(code, argument)?;
+    }
+    Ok(())
+}
+
+/// Appends the code of an argument, whose word goes from the expression stack to the frame that a call begins.
+fn emit_pushed(code: &mut CodeBuffer<'_>, argument: &RArgument) -> Result<(), Memory>
+    ensures { OnOk result (Adds (argument_part argument.now) code.old code.new (PushedPart argument.now)) }
+{
+    emit_argument(code, argument)?;
+    code.put(Instr::Psh)
 }

@@ -75,7 +75,9 @@ fn emit_statement(
         RStmt::Exit => emit_exit(code, around),
         RStmt::Halt => code.put(Instr::Trp(9)),
         RStmt::Return => code.put(Instr::Rtn),
-        RStmt::Call(procedure, levels) => emit_call(code, *procedure, *levels),
+        RStmt::Call(procedure, levels, given) => {
+            emit_call(code, *procedure, *levels, given.as_slice())
+        }
     }
 }
 

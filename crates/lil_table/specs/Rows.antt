@@ -1,14 +1,14 @@
 -- The translation table: which bytes from one place to another are a translation of a part. It has one row for each construct. The place
 -- in a jump and how many entries a table has are written as they are, or in code that is too long for that cut to 16 bits.
-use Rattle.std.specs.Prelude.{◌≡◌, ℕ, zero, suc, ◌+◌, ◌-◌, ◌*◌, ◌%◌, ◌<◌, ◌≤◌, min, max, ℤ, Bool, true, false, List, [], ◌∷◌, ◌++◌, length, drop, map, get_or, Option, Some, None, slice_get, cond}
+use Rattle.std.specs.Prelude.{◌≡◌, ℕ, zero, suc, ◌+◌, ◌-◌, ◌*◌, ◌%◌, ◌<◌, ◌≤◌, min, max, ℤ, Bool, true, false, List, [], ◌∷◌, ◌++◌, length, map, get_or, Option, Some, None, slice_get, cond}
 use Rattle.lil_base.specs.{Words.{Whole, Cardinal, Integer, word_of}, declared.operator.{OneOp.OneOp, TwoOp.{TwoOp, TheVariants.{Equal, Unequal, Less, AtMost, Greater, AtLeast, In, Plus, Minus, Times, Slash, Div, Mod}}}, Requests.request_number}
 use Rattle.lil_base.specs.declared.operator.OneOp.TheVariants as one
 use Rattle.lil_base.specs.declared.request.Request as request
-use Rattle.lil_resolved.specs.Kinds.{Objects, Workspaces, Kind, OfWhole, OfTruth, OfCharacter, OfSet, OfPointer, base_of, is_ordinal, is_set, is_plain, is_element, takes_value, stores_value, compared_as, covers, shared, outside_turns, least, numbers, Scalar, is_literal, scalar_word, Shape, Word, Row, Scope, with_held, MayCall, locals_at, words, is_there, part_at, offset, all_words, offsets_from, shape_at, element_of}
-use Rattle.lil_resolved.specs.Resolved.{Named, OfModule, OfLevel, variable_at, Designator, Variable, Held, Field, Element, Follow, Function, Abs, Cap, Chr, Odd, Ord, Val, Expression, Constant, Taken, One, Two, Short, Apply, With, WithSpan, Argument, ByValue, OfArray, OfText, Label, Statement, Assign, Copy, Text, Change, Member, New, Allocate, Request, If, Case, While, Repeat, Loop, Exit, Halt, Return, Call, For, Inside, Statements, Empty, Then, Arms, NoElse, Else, Arm, Procedure, Resolved, scope_in, kind_of, right_kind, counted_as, shape_of}
-use Rattle.lil_resolved.specs.{Sizes.{place_depth, depth, frame_words}, Sound.{takes_one, takes_two, takes_function, IsScalar, IsSoundLabel, IsStep, is_text, request_parameters, parameter_of}}
+use Rattle.lil_resolved.specs.Kinds.{Objects, Workspaces, Kind, OfWhole, OfTruth, OfCharacter, OfSet, OfPointer, base_of, is_ordinal, is_set, is_plain, is_element, takes_value, stores_value, compared_as, covers, shared, outside_turns, least, numbers, Scalar, is_literal, scalar_word, Shape, Address, Word, Row, Scope, with_held, MayCall, parameters_of, parameters_at, locals_at, words, is_there, part_at, offset, all_words, offsets_from, shape_at, element_of, procedure_by}
+use Rattle.lil_resolved.specs.Resolved.{Named, OfModule, OfLevel, variable_at, Designator, Variable, Handed, Held, Field, Element, Follow, Function, Abs, Cap, Chr, Odd, Ord, Val, Expression, Constant, Taken, One, Two, Short, Apply, With, WithSpan, Argument, ByValue, OfPlace, OfArray, OfText, Label, Statement, Assign, Copy, Text, Change, Member, New, Allocate, Request, If, Case, While, Repeat, Loop, Exit, Halt, Return, Call, For, Inside, Statements, Empty, Then, Arms, NoElse, Else, Arm, Procedure, Resolved, scope_in, kind_of, right_kind, counted_as, shape_of}
+use Rattle.lil_resolved.specs.{Sizes.{place_depth, depth, frame_words, argument_words}, Sound.{takes_one, takes_two, takes_function, IsScalar, IsSoundLabel, IsStep, is_text, request_parameters, parameter_of, IsSingle}}
 use Rattle.lil_asm.specs.declared.instr.Instr.{Instr}
-use Rattle.lil_asm.specs.declared.instr.Instr.TheVariants.{Liw, Dup, Drp, Llw, Slw, Lgw, Sgw, Lnw, Snw, Lal, Lan, Lag, Ldi, Sti, Ldf, Adf, Mov, Mvz, Nlt, Ixc, Swp, Rgc, Rgi, Cap, Adc, Sbc, Mlc, Dvc, Mdc, Adi, Sbi, Mli, Dvi, Mdi, Ngi, Abi, Uni, Dif, Its, Sym, Sin, Spn, Icl, Ecl, Sle, Not, Equ, Neq, Lsc, Lec, Lsi, Lei, Mrk, Cll, Ent, Rtn, Jmp, Jpf, Jan, Jor, Cas, Fri, Frn, Trp, Alc, Svc}
+use Rattle.lil_asm.specs.declared.instr.Instr.TheVariants.{Liw, Dup, Drp, Llw, Slw, Lgw, Sgw, Lnw, Snw, Lal, Lan, Lag, Ldi, Sti, Ldf, Adf, Mov, Mvz, Nlt, Ixc, Swp, Rgc, Rgi, Cap, Adc, Sbc, Mlc, Dvc, Mdc, Adi, Sbi, Mli, Dvi, Mdi, Ngi, Abi, Uni, Dif, Its, Sym, Sin, Spn, Icl, Ecl, Sle, Not, Equ, Neq, Lsc, Lec, Lsi, Lei, Mrk, Psh, Cll, Ent, Rtn, Jmp, Jpf, Jan, Jor, Cas, Fri, Frn, Trp, Alc, Svc}
 use Rattle.lil_asm.specs.{Bytes.{word_at, decoded}, Requests.request_words, Stretches.stretch}
 
 -- Where the variables of a module lie in its data frame, by their numbers; the shapes that names reach, and the words of the frame that
@@ -175,6 +175,7 @@ access_at (OfLevel n x) o = InFrame n (framed o)
 -- how code has the place of a designator
 abbrev pub access_of : Layout → Designator → Access
 access_of l (Variable v) = access_at v (offset_in (offset_at l v))
+access_of l (Handed n x) = OnTop
 access_of l (Held w) = OnTop
 access_of l (Field d i) = further (offset (shape_of l.scope d) (i ∷ [])) (access_of l d)
 access_of l (Element d k e) = OnTop
@@ -340,6 +341,15 @@ pub record NamedRow (l : Layout) (v : Named) (p q : ℕ) : Type 0 where
   pub there : is_there shape ≡ true
   pub stays : p ≡ q
 
+-- what was handed in for a VAR parameter: a word of its procedure's frame has its address
+pub record HandedRow (l : Layout) (code : List ℕ) (n x p q : ℕ) : Type 0 where
+  pub offset : ℕ
+  pub shape : Shape
+  pub at : offset_at l (OfLevel n x) ≡ Some offset
+  pub typed : slice_get (parameters_at l.scope n) x ≡ Some (Address shape)
+  pub there : is_there shape ≡ true
+  pub load : IsAt code p (load_code (access_at (OfLevel n x) offset)) q
+
 -- the record of a WITH: a word of the frame has its address
 pub record HeldRow (l : Layout) (code : List ℕ) (w p q : ℕ) : Type 0 where
   pub word : ℕ
@@ -389,6 +399,7 @@ pub record TakenRow (l : Layout) (code : List ℕ) (d : Designator) (k : Kind) (
 abbrev mutual
   pub PlaceAt : Layout → List ℕ → Designator → Span
   PlaceAt l code (Variable v) p q = NamedRow l v p q
+  PlaceAt l code (Handed n x) p q = HandedRow l code n x p q
   PlaceAt l code (Held w) p q = HeldRow l code w p q
   PlaceAt l code (Field d i) p q = FieldRow l d i (PlaceAt l code d) p q
   PlaceAt l code (Element d k e) p q = ElementRow l code d k e (PlaceAt l code d) (ExpressionAt l code e) p q
@@ -534,6 +545,14 @@ pub record TextRow (l : Layout) (code : List ℕ) (d : Designator) (cs : List �
   pub source : IsAt code start (Lag offset) last
   pub by : IsAt code last (Mvz (length cs) (count - length cs)) q
 
+-- the address of a place, with n words of others below
+pub record AddressRow (l : Layout) (code : List ℕ) (n : ℕ) (d : Designator) (p q : ℕ) : Type 0 where
+  pub found : ℕ
+  pub there : is_there (shape_of l.scope d) ≡ true
+  pub shallow : n + place_depth d ≤ 16
+  pub here : PlaceAt l code d p found
+  pub address : InstrsAt code (address_code (access_of l d)) found q
+
 -- an array for an open array of characters, with n words of others below: its address, and the number of its last element
 pub record ArrayRow (l : Layout) (code : List ℕ) (n : ℕ) (d : Designator) (high p q : ℕ) : Type 0 where
   pub found : ℕ
@@ -554,19 +573,14 @@ pub record StringRow (l : Layout) (code : List ℕ) (n : ℕ) (cs : List ℕ) (p
   pub address : IsAt code p (Lag offset) start
   pub by : IsAt code start (Liw (text_words cs - 1)) q
 
--- how many words of the expression stack an argument is
-abbrev pub argument_words : Argument → ℕ
-argument_words (ByValue k e) = 1
-argument_words (OfArray d high) = 2
-argument_words (OfText cs) = 2
-
 abbrev pub arguments_words : List Argument → ℕ
 arguments_words [] = 0
 arguments_words (a ∷ given) = argument_words a + arguments_words given
 
 -- an argument, with n words of others below it
 abbrev pub ArgumentAt : Layout → List ℕ → ℕ → Argument → Span
-ArgumentAt l code n (ByValue k e) p q = (takes_value k (kind_of e) ≡ true) × ValueRow l code n e k p q
+ArgumentAt l code n (ByValue k e) p q = ValueRow l code n e k p q
+ArgumentAt l code n (OfPlace d) p q = AddressRow l code n d p q
 ArgumentAt l code n (OfArray d high) p q = ArrayRow l code n d high p q
 ArgumentAt l code n (OfText cs) p q = StringRow l code n cs p q
 
@@ -582,7 +596,7 @@ ArgumentsAt l code n (a ∷ given) p q = ArgumentRow (ArgumentAt l code n a) (Ar
 
 pub record RequestRow (l : Layout) (code : List ℕ) (r : request.Request) (given : List Argument) (p q : ℕ) : Type 0 where
   pub middle : ℕ
-  pub takes : request_parameters r ≡ map parameter_of given
+  pub takes : request_parameters r ≡ map (parameter_of l.scope) given
   pub words : request_words r ≡ arguments_words given
   pub arguments : ArgumentsAt l code 0 given p middle
   pub by : IsAt code middle (Svc (request_number r)) q
@@ -686,12 +700,26 @@ pub record CaseRow (l : Layout) (code : List ℕ) (e : Expression) (arms : ℕ �
   pub choice : IsAt code choices (Cas (l.target count) (l.target other)) entries
   pub whole : q ≡ entries + 6 * count
 
--- a mark, and a call
-pub record CallRow (l : Layout) (code : List ℕ) (x n p q : ℕ) : Type 0 where
-  pub may : MayCall l.scope x n
+-- a word that goes from the expression stack to the frame that a call begins
+pub record PushedRow (code : List ℕ) (argument : Span) (p q : ℕ) : Type 0 where
   pub middle : ℕ
-  pub mark : IsAt code p (Mrk n) middle
-  pub call : IsAt code middle (Cll x 0) q
+  pub here : argument p middle
+  pub push : IsAt code middle Psh q
+
+-- the arguments of a call, one behind another
+abbrev pub GivenAt : Layout → List ℕ → List Argument → Span
+GivenAt l code [] p q = p ≡ q
+GivenAt l code (a ∷ given) p q = IsSingle a × ArgumentRow (PushedRow code (ArgumentAt l code 0 a)) (GivenAt l code given) p q
+
+-- a mark, the arguments, and a call
+pub record CallRow (l : Layout) (code : List ℕ) (x n : ℕ) (given : List Argument) (p q : ℕ) : Type 0 where
+  pub may : MayCall l.scope x n
+  pub takes : parameters_of (procedure_by l.scope.procedures x) ≡ map (parameter_of l.scope) given
+  pub start : ℕ
+  pub middle : ℕ
+  pub mark : IsAt code p (Mrk n) start
+  pub arguments : GivenAt l code given start middle
+  pub call : IsAt code middle (Cll x (framed (arguments_words given))) q
 
 -- the first word of a FOR or a WITH in the frame, where the variables and those around it take n words
 abbrev pub loop_place : ℕ → ℕ
@@ -793,7 +821,7 @@ abbrev mutual
   StatementAt l code n exit Exit p q = ExitRow code exit p q
   StatementAt l code n exit Halt p q = IsAt code p (Trp 9) q
   StatementAt l code n exit Return p q = IsAt code p Rtn q
-  StatementAt l code n exit (Call x i) p q = CallRow l code x i p q
+  StatementAt l code n exit (Call x i given) p q = CallRow l code x i given p q
   StatementAt l code n exit (For v k a b step body) p q = ForRow l code n v k a b step (BodyAt l code (3 + n) exit body) p q
   StatementAt l code n exit (Inside d body) p q = InsideRow l code n d (BodyAt (holding l (shape_of l.scope d) (framed (loop_place n))) code (suc n) exit body) p q
 

@@ -154,7 +154,7 @@ emit_statement-returns-in-Return t c =
     with_ok c.put-in-Return.result (λ h. one_emitted c.args.around.words c.args.around.exit Return _ _ _ (ap statement_of c.in-Return.is ∙ return_is) (emits_as _ _ _ (Stated c.args.around.words c.args.around.exit Return) (λ x t many taken sound room. t) h)) c.put-in-Return.ensures
 
 pub emit_statement-returns-in-Call : goal.emit_statement-returns-in-Call
-emit_statement-returns-in-Call t c = stated c.emit_call.result c.args.around.words c.args.around.exit _ _ _ _ (ap statement_of c.in-Call.is ∙ call_is _ _) c.emit_call.ensures
+emit_statement-returns-in-Call t c = stated c.emit_call.result c.args.around.words c.args.around.exit _ _ _ _ (ap statement_of c.in-Call.is ∙ call_is _ _ _) (rw c.as_slice-in-Call.ensures at c.emit_call.ensures)
 
 pub emit_statement-returns-in-Exit : goal.emit_statement-returns-in-Exit
 emit_statement-returns-in-Exit t c = with_ok c.emit_exit.result (one_emitted c.args.around.words c.args.around.exit _ _ _ _ (ap statement_of c.in-Exit.is ∙ exit_is)) c.emit_exit.ensures
