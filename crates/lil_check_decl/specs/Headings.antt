@@ -87,13 +87,12 @@ sections_mean e h = walk (section_step (home_at e (length e.scopes.blocks))) (be
 abbrev pub heading_type : Headed → Heading → Made × List Row
 heading_type q h = after (result_means q.0 h.result) (λ n. form_node q.0 h.place (procedure_form q.1 n))
 
--- no code is made of open arrays, and of values of arrays and records
-abbrev pub is_unbuilt : Table → Parameter → Bool
-is_unbuilt t p = p.open_array || (not p.by_place && is_structure t p.sort)
+abbrev pub is_open : Parameter → Bool
+is_open p = p.open_array
 
--- 90 NotBuilt: it has such a parameter, or a result
-abbrev pub has_more : Table → List Parameter → Option Qualident → Bool
-has_more t ps r = list_any (is_unbuilt t) ps || is_some r
+-- 90 NotBuilt: it has an open array, or a result
+abbrev pub has_more : List Parameter → Option Qualident → Bool
+has_more ps r = list_any is_open ps || is_some r
 
 abbrev pub heading_means : Env → Heading → Env × List Row
-heading_means e h = after (sections_mean e h) (λ q. not_built (has_more q.0.types q.1.list h.result) h.place (after (heading_type q h) (named_means (length e.scopes.blocks) h.name)))
+heading_means e h = after (sections_mean e h) (λ q. not_built (has_more q.1.list h.result) h.place (after (heading_type q h) (named_means (length e.scopes.blocks) h.name)))

@@ -7,9 +7,7 @@ ghost use Rattle.lil_check_decl.specs.Headings as spec;
 
 use crate::home::Home;
 use lil_base::{FaultKind, Memory};
-use lil_check_type::{
-    Parameters, add_form, add_parameter, is_structure, procedure_form, result_type, sort_or,
-};
+use lil_check_type::{Parameters, add_form, add_parameter, procedure_form, result_type, sort_or};
 use lil_check_value::type_named;
 use lil_declared::{Mode, RProc, RVar};
 use lil_language::{Heading, Section};
@@ -315,23 +313,17 @@ fn named(
     numbered(alloc, env, report, block, sort, of)
 }
 
-fn is_unbuilt(t: &TypeTable, of: Parameter) -> bool
-    ensures { result ≡ spec.is_unbuilt t.now of }
+fn any_open(parameters: &[Parameter]) -> bool
+    ensures { result ≡ list_any spec.is_open parameters.now }
 {
-    of.open_array || (!of.by_place && is_structure(t, of.sort))
+    parameters.iter().any(|one| one.open_array)
 }
 
-fn any_unbuilt(t: &TypeTable, parameters: &[Parameter]) -> bool
-    ensures { result ≡ list_any (spec.is_unbuilt t.now) parameters.now }
+/// Whether a heading has what isn't built: an open array, or a result.
+fn has_more(parameters: &[Parameter], of: &Heading) -> bool
+    ensures { result ≡ spec.has_more parameters.now of.now.result }
 {
-    parameters.iter().any(|one| is_unbuilt(t, *one))
-}
-
-/// Whether a heading has what isn't built: an open array, an array or a record by value, or a result.
-fn has_more(t: &TypeTable, parameters: &[Parameter], of: &Heading) -> bool
-    ensures { result ≡ spec.has_more t.now parameters.now of.now.result }
-{
-    any_unbuilt(t, parameters) || of.result.is_some()
+    any_open(parameters) || of.result.is_some()
 }
 
 /// The heading of a procedure.
@@ -347,7 +339,7 @@ pub fn heading(
     let block = begin(alloc, env)?;
     let home = home_at(env, block);
     let parameters = sections(alloc, env, report, home, of.sections.as_slice())?;
-    let more = has_more(&env.types, parameters.list.as_slice(), of);
+    let more = has_more(parameters.list.as_slice(), of);
     report.note(more, of.place, FaultKind::NotBuilt);
     let sort = heading_type(env, report, parameters, of)?;
     named(alloc, env, report, block, &of.name, sort)

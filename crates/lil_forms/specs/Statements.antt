@@ -121,15 +121,6 @@ string_given t (form.Text cs) = Some (given.Text cs)
 string_given t (form.Located p) = array_given t p
 string_given t (form.Value x) = None
 
--- ---- values
-abbrev pub value_as : RKind → Option RExpr → Option RArgument
-value_as j None = None
-value_as j (Some x) = Some (given.Value j x)
-
-abbrev pub value_by : Table → ℕ → Option RKind → Found → Option RArgument
-value_by t s None a = None
-value_by t s (Some j) a = value_as j (typed t s a)
-
 -- ---- places
 abbrev pub located_in : Form → Option Located
 located_in form.Nothing = None
@@ -141,8 +132,22 @@ abbrev pub place_given : Option Located → Option RArgument
 place_given None = None
 place_given (Some p) = Some (given.Place p.place)
 
+-- all that lies there
+abbrev pub whole_given : Option Located → Option RArgument
+whole_given None = None
+whole_given (Some p) = Some (given.All p.place)
+
+-- ---- values: those of arrays and records have no kind
+abbrev pub value_as : RKind → Option RExpr → Option RArgument
+value_as j None = None
+value_as j (Some x) = Some (given.Value j x)
+
+abbrev pub value_by : Table → ℕ → Option RKind → Found → Option RArgument
+value_by t s None a = whole_given (located_in a.form)
+value_by t s (Some j) a = value_as j (typed t s a)
+
 -- ---- what a call is handed, argument by argument, where all of it has code
--- open arrays by place have none, and neither have values of arrays and records, which have no kind
+-- open arrays by place have none
 abbrev pub argument_given : Table → Parameter → Found → Option RArgument
 argument_given t p a =
     if p.by_place then (if p.open_array then None else place_given (located_in a.form))

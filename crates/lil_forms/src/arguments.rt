@@ -59,8 +59,7 @@ fn value_by(t: &TypeTable, sort: TypeId, kind: Option<RKind>, of: Found) -> Opti
     ensures { result ≡ spec.value_by t.now sort kind of }
 {
     let Some(kind) = kind else {
-        drop(of);
-        return None;
+        return whole_given(located_in(of.form));
     };
     match typed(t, sort, of) {
         None => None,
@@ -88,6 +87,16 @@ fn place_given(of: Option<Located>) -> Option<RArgument>
     match of {
         None => None,
         Some(of) => Some(RArgument::Place(of.place)),
+    }
+}
+
+/// All that lies at a place, for a parameter by value.
+fn whole_given(of: Option<Located>) -> Option<RArgument>
+    ensures { result ≡ spec.whole_given of }
+{
+    match of {
+        None => None,
+        Some(of) => Some(RArgument::All(of.place)),
     }
 }
 

@@ -62,7 +62,7 @@ translates = record {
             enter = refl;
             body = record {
               middle = 25;
-              here = record { middle = 23; takes = refl; words = refl; arguments = refl; by = refl };
+              here = record { middle = 23; takes = refl; words = refl; arguments = refl; served = tt; by = refl };
               then = refl;
             };
             leave = refl;

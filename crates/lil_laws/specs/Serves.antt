@@ -3,7 +3,7 @@ use Rattle.std.proofs.Common.{◌≡◌, ◌⊎◌, inl, inr, ℕ, zero, suc, Bo
 use Rattle.std.specs.Prelude.{ℤ, map, slice_get}
 use Rattle.lil_base.specs.{Words.Cardinal, declared.fault.{TrapKind.TrapKind, TrapAt.TrapAt}}
 use Rattle.lil_base.specs.declared.request.Request as request
-use Rattle.lil_resolved.specs.{Kinds.{Kind, OfWhole, nat_of, Scalar, ToObject, within, value_with, ordinal_of}, Resolved.{Named, OfLevel, Designator, Variable, Handed, Held, Expression, Taken, Argument, ByValue, OfPlace, OfArray, OfText, Statement, Exit, Statements, Procedure, procedure_by, Resolved, counted_as}}
+use Rattle.lil_resolved.specs.{Kinds.{Kind, OfWhole, nat_of, Scalar, ToObject, within, value_with, ordinal_of}, Resolved.{Named, OfLevel, Designator, Variable, Handed, Held, Expression, Taken, Argument, ByValue, OfPlace, OfAll, OfArray, OfText, Statement, Exit, Statements, Procedure, procedure_by, Resolved, counted_as}}
 use Rattle.lil_meaning.specs.{Items.{Place, got, loaded_at, Receiver, Requested, Called, Datum, Scalars, Places, Hole, Get, StoreAt, ChangeAt, OneOf, RightOf, ApplyTo, Pass, Pick, Task, Do, Passing, Item, Value, Evaluate, PlaceOf, Fill, Perform, Activation, Level, Phase, Going, Closing, Source}, Need.HasCalls, World.{World, Given, serve, closing}}
 use Rattle.lil_meaning.specs.Steps.{next, by_phase, first, given, fill, filled, filled_place, pointed, performed, did, entered, owner_of, procedures_of, current, turned_at, turned_with, turned_on, variable_place, picked, allocated, found_at, placed, received, passed_on, evaluated, answered, applied, one_applied, function_value, chosen, stored_with, value_of, changed, whole_of, given_of, level_of, over, left_by, leave}
 use Rattle.lil_meaning.specs.Runs.{after}
@@ -114,6 +114,7 @@ module _ (library : List Resolved) (s : Source) where
   passed_serves r done [] k = received_serves r done k
   passed_serves r done (ByValue kind e ∷ left) k = still refl refl refl
   passed_serves r done (OfPlace d ∷ left) k = still refl refl refl
+  passed_serves r done (OfAll d ∷ left) k = still refl refl refl
   passed_serves r done (OfArray d high ∷ left) k = still refl refl refl
   passed_serves r done (OfText cs ∷ left) k = still refl refl refl
 

@@ -1,4 +1,15 @@
 -- Calls of procedures: a mark, and then the arguments.
+use Rattle.lil_table.specs.Rows.{given_words}
+use Rattle.lil_meaning.specs.Items.{Wholes, under}
+use Rattle.lil_resolved.specs.Kinds.{words, is_there}
+use Rattle.std.proofs.Common.{drop, length-drop}
+use Rattle.std.proofs.lemmas.List.{length-take-le, get_or-take, get_or-drop}
+use Rattle.std.proofs.lemmas.Bool.{le-leb}
+use Rattle.lil_mcode.specs.Table.{longer_row, words_row}
+use Rattle.lil_asm.specs.declared.instr.Instr.TheVariants.{Psm}
+use Rattle.lil_match.specs.Splices.{block_alone}
+use Rattle.lil_match.specs.Homes.{place_inside}
+use Rattle.lil_laws_stmt.specs.Pushes.{alone_given, block_given}
 use Rattle.lil_meaning.specs.Need.{IsCalling, next_called}
 use Rattle.lil_resolved.specs.Kinds.{MayCall}
 use Rattle.std.proofs.Common.{◌≡◌, ℕ, zero, suc, ◌+◌, ◌<◌, ◌≤◌, inl, inr, Bool, true, cond, Option, None, Some, List, [], ◌∷◌, ◌++◌, length, map, take, refl, sym, ap, ◌∙◌, subst, ⊎_elim, arith}
@@ -6,14 +17,14 @@ use Rattle.std.specs.Prelude.{slice_get}
 use Rattle.std.proofs.lemmas.{Bool.{lt-ltb, le-ltb, cases_lt}, Option.{none-some, same_Some}}
 use Rattle.lil_base.specs.declared.fault.LimitKind.TheVariants as limit
 use Rattle.lil_base.specs.declared.fault.TrapKind.TheVariants as trap
-use Rattle.lil_resolved.specs.{Kinds.{Declared, Outline, Kind, Scalar, within, stores_value, Shape, Word, Address, all_words, parameters_of, procedure_by}, Resolved.{Procedure, Designator, Argument, ByValue, OfPlace, OfArray, OfText, Call, Resolved, kind_of, outline_of, shape_of}, Sizes.{frame_words}, Sound.{parameter_of}}
-use Rattle.lil_meaning.specs.{Items.{loaded_at, Place, Datum, Scalars, Places, Called, Pass, PassPlace, Do, Passing, Item, Value, Fill, Perform, Activation, Going, Source, heap_words}, Need.{HasCalls, chain, chain_of, frame_by, frame_of}, Steps.{next, trapped, with_items, current, owner_of, procedures_of}}
+use Rattle.lil_resolved.specs.{Kinds.{Declared, Outline, Kind, Scalar, within, stores_value, Shape, Word, Address, all_words, parameters_of, procedure_by}, Resolved.{Procedure, Designator, Argument, ByValue, OfPlace, OfAll, OfArray, OfText, Call, Resolved, kind_of, outline_of, shape_of}, Sizes.{frame_words}, Sound.{parameter_of}}
+use Rattle.lil_meaning.specs.{Items.{loaded_at, Place, Datum, Scalars, Places, Called, Pass, PassPlace, PassAll, Do, Passing, Item, Value, Fill, Perform, Activation, Going, Source, heap_words}, Need.{HasCalls, chain, chain_of, frame_by, frame_of}, Steps.{next, trapped, with_items, current, owner_of, procedures_of}}
 use Rattle.lil_asm.specs.declared.instr.Instr.TheVariants.{Mrk, Psh, Cll}
 use Rattle.lil_mcode.specs.Table.{State, going, mstep, on_one, frame_out, link_word, mark_row, word_row}
 use Rattle.lil_frames.specs.Words.{spliced}
 use Rattle.lil_table.specs.Rows.{Layout, IsAt, InstrsAt, test_code, address_code, framed, GivenAt, arguments_words, access_of, loop_place}
 use Rattle.lil_match.specs.{Goes.{OwnWords, Shared, IsShort, Lands, Goes}, Running.{running}, Parts.{yes, no}, Homes.{Home, word_for, Refers, within_base, address}, Costs.{cost_of, pending_cost, items_cost, shared_costs, shared_cost, top_low}, Climbs.{Climbs, climbs, first_own}}
-use Rattle.lil_match.specs.{Waits.{own_words, Quiet, ValueOf, AtPlace, Around, top_of, IsLink, frames_of, Setting, at_home, pushing, Designates, GivenWord, Pending, PendingWaits, ValueWaits, PlaceWaits, RowsOf, Rows, Waiting, frame_of as frame_at, laid_out}, Kept.{Keeps, pending_fits, rows_renewed, first_words, stack_above, loops_fit, given_word, pending_kept, rows_kept}}
+use Rattle.lil_match.specs.{Waits.{own_words, Quiet, ValueOf, AtPlace, Around, top_of, IsLink, frames_of, Setting, at_home, pushing, Designates, GivenWords, Pending, PendingWaits, ValueWaits, PlaceWaits, AllWaits, RowsOf, Rows, Waiting, frame_of as frame_at, laid_out}, Kept.{Keeps, pending_fits, rows_renewed, first_words, stack_above, loops_fit, pending_kept, rows_kept}}
 use Rattle.lil_match.specs.{Steps.{closed, pending_closed, advances, at_step, at_once, goes_full, goes_one_in, operand_goes, located_goes}, Orders.instr_within}
 use Rattle.lil_laws_place.specs.Codes.{addressed, stored_tested}
 use Rattle.lil_laws_stmt.specs.{Tasks.value_within, Pushes.{pending_more, taking, shared_pushed, touches_pushed, keeps_pushed, shadow_pushed}}
@@ -39,14 +50,7 @@ frame_known o zero q e = absurd (none_procedure q e)
 frame_known None (suc p) q e = absurd (none_procedure q e)
 frame_known (Some m) (suc p) q e = ap frame_by e
 
--- ---- arguments of one word
-given_words : (l : Layout) (code : List ℕ) (given : List Argument) (p q : ℕ) → GivenAt l code given p q → (all_words (map (parameter_of l.scope) given) ≡ length given) × (arguments_words given ≡ length given)
-given_words l code [] p q h = (refl, refl)
-given_words l code (ByValue k e ∷ given) p q h = let rest = given_words l code given h.1.middle q h.1.then in (omega (arith, rest.0), omega (arith, rest.1))
-given_words l code (OfPlace d ∷ given) p q h = let rest = given_words l code given h.1.middle q h.1.then in (omega (arith, rest.0), omega (arith, rest.1))
-given_words l code (OfArray d high ∷ given) p q h = absurd h.0
-given_words l code (OfText cs ∷ given) p q h = absurd h.0
-
+-- ---- parameters are variables
 taken_words : (n : ℕ) (ts : List Shape) → all_words (take n ts) ≤ all_words ts
 taken_words zero ts = omega arith
 taken_words (suc n) [] = omega arith
@@ -69,8 +73,8 @@ module _ (ctx : Setting) where
   open laid_out ctx use {layout as l}
 
   module _ (s : Source) (k : List Item) (m : State) (c : ℕ) (a : Around) (shared : Shared ctx s m) (proc levels : ℕ) where
-    words : OwnWords ctx.home.owner ctx.stack.frame m.top
-    words = first_words h.owner st.base m.top st.frame st.callers shared.standing.stands
+    words_here : OwnWords ctx.home.owner ctx.stack.frame m.top
+    words_here = first_words h.owner st.base m.top st.frame st.callers shared.standing.stands
 
     -- a call that finds no room for a word more
     short : (t : Source) (more cost : ℕ) → m.limit < m.top + more → cost_of (ctx.stack.frame ∷ ctx.stack.callers) + more ≤ cost → cost ≡ chain_of ctx.library t → t.objects ≡ s.objects → t.workspaces ≡ s.workspaces
@@ -132,13 +136,13 @@ module _ (ctx : Setting) where
           (short passing 4 _ less (let low = shared_cost ctx s m shared k _ _ _ _ _ row.then in omega (arith, low)) refl refl refl, inr (calling (current k) close row.part.here.may passing (refl, refl, refl, refl))) (omega arith)
 
       -- what is called has a frame for its arguments
-      room_is : 4 + (0 + (0 + length given)) ≤ frame_of (loaded_at ctx.library ctx.loaded ctx.stack.frame.number) proc + 17
+      room_is : 4 + (0 + (0 + given_words l.scope given)) ≤ frame_of (loaded_at ctx.library ctx.loaded ctx.stack.frame.number) proc + 17
       room_is =
           let one = what row.part.here.may in
           let frame = frame_known (loaded_at ctx.library ctx.loaded ctx.stack.frame.number) proc one.its one.there in
           let parameters : take one.its.parameters one.its.locals ≡ map (parameter_of l.scope) given =
           ap (λ (o : Outline). take o.parameters o.locals) one.same ∙ sym (ap parameters_of row.part.here.may.known) ∙ row.part.here.takes in
-          omega (arith, frame, ap all_words parameters, taken_words one.its.parameters one.its.locals, (given_words l piece given row.part.here.start row.part.here.middle row.part.here.arguments).0)
+          omega (arith, frame, ap all_words parameters, taken_words one.its.parameters one.its.locals)
 
       module _ (room : m.top + length mark ≤ ctx.stack.limit) where
         abbrev x : Home
@@ -159,7 +163,7 @@ module _ (ctx : Setting) where
             (λ g among. shared.mem.kept g.at (first_own h.owner st.base m.top st.frame st.callers shared.standing.stands g among)) i d.0 in
             up.shown
             ∙ ap Some (sym (
-            ap x.shadow (let e : top_of ctx.stack.frame ≡ m.top + 0 = omega (arith, words.top_is) in e)
+            ap x.shadow (let e : top_of ctx.stack.frame ≡ m.top + 0 = omega (arith, words_here.top_is) in e)
             ∙ shadow_pushed ctx s m shared mark room 0 (omega arith)
             ∙ ap (λ (n : ℕ). link_word n m) e
             ∙ ap (λ (b : ℕ). frame_out m.store b i) shared.standing.frame_is
@@ -168,8 +172,7 @@ module _ (ctx : Setting) where
 
         begins : Goes ctx s items m (c + 32)
         begins =
-            let long = (given_words l piece given row.part.here.start row.part.here.middle row.part.here.arguments).1 in
-            let loops = loops_fit k ctx Quiet row.part.end [] c a words.mark row.then in
+            let loops = loops_fit k ctx Quiet row.part.end [] c a words_here.mark row.then in
             goes_one_in ctx s items m x (pushing ctx 4).stack (c + 32) c (running marked s.world)
             (advances m s.world _ (marking ∙ no _ _ _ (le-ltb m.limit (m.top + 4) (omega (arith, room, shared.standing.limit_is)))))
             (record {
@@ -184,11 +187,11 @@ module _ (ctx : Setting) where
                       empty = row.part.empty;
                       pending = record {
                         before = at_home ctx x;
+                        shapes = [];
                         is = refl;
                         outer = a;
                         around = refl;
                         may = row.part.here.may;
-                        shapes = [];
                         takes = row.part.here.takes;
                         room = room_is;
                         link = linked levels refl row.part.here.may.declared;
@@ -196,7 +199,7 @@ module _ (ctx : Setting) where
                         middle = row.part.here.middle;
                         arguments = row.part.here.arguments;
                         end = row.part.end;
-                        call = subst (λ (n : ℕ). IsAt piece row.part.here.middle (Cll proc (framed n)) row.part.end) (let e : arguments_words given ≡ 0 + (0 + length given) = omega (arith, long) in e) row.part.here.call;
+                        call = subst (λ (n : ℕ). IsAt piece row.part.here.middle (Cll proc (framed n)) row.part.end) (let e : given_words l.scope given ≡ 0 + (0 + given_words l.scope given) = omega arith in e) row.part.here.call;
                         within = row.part.within;
                         then = rows_kept k ctx x ctx.stack.limit (ctx.stack.base + 4) (stack_above ctx _ shared.standing).1 Quiet row.part.end [] c a (keeps_pushed ctx s m shared mark room (loop_place a.taken) loops) row.then;
                       };
@@ -214,11 +217,11 @@ module _ (ctx : Setting) where
     next_argument : (done : List Datum) (y : Argument) (left : List Argument) (w : Pending ctx proc levels done [] (y ∷ left) (RowsOf k) m.place c a) → Pending ctx proc levels done (parameter_of l.scope y ∷ []) left (RowsOf k) w.arguments.1.middle c a
     next_argument done y left w = record {
       before = w.before;
+      shapes = w.shapes;
       is = w.is;
       outer = w.outer;
       around = w.around;
       may = w.may;
-      shapes = w.shapes;
       takes = w.takes;
       room = omega (arith, w.room);
       link = w.link;
@@ -226,7 +229,7 @@ module _ (ctx : Setting) where
       middle = w.middle;
       arguments = w.arguments.1.then;
       end = w.end;
-      call = subst (λ (n : ℕ). IsAt piece w.middle (Cll proc (framed n)) w.end) (let e : length done + (0 + length (y ∷ left)) ≡ length done + (1 + length left) = omega arith in e) w.call;
+      call = subst (λ (n : ℕ). IsAt piece w.middle (Cll proc (framed n)) w.end) (let e : all_words w.shapes + (0 + given_words l.scope (y ∷ left)) ≡ all_words w.shapes + ((words (parameter_of l.scope y) + 0) + given_words l.scope left) = omega arith in e) w.call;
       within = w.within;
       then = w.then;
     }
@@ -246,60 +249,74 @@ module _ (ctx : Setting) where
         located_goes ctx s k m c a shared (Perform (Passing (Called proc levels) done (OfPlace d ∷ left)) ∷ k) d (PassPlace (Called proc levels) done left) refl (omega arith) y.found y.here
         (omega (arith, ap length row.empty, y.shallow))
         (record { of = d; mode = refl; empty = row.empty; tested = r.here.middle; address = y.address; start = r.middle; push = r.here.push; pending = next_argument done (OfPlace d) left row.pending })
+    argument_goes done (OfAll d) left row =
+        let r = row.pending.arguments.1 in
+        let y = r.here.here in
+        located_goes ctx s k m c a shared (Perform (Passing (Called proc levels) done (OfAll d ∷ left)) ∷ k) d (PassAll (Called proc levels) done left) refl (omega arith) y.found y.here
+        (omega (arith, ap length row.empty, y.shallow))
+        (record { of = d; mode = refl; empty = row.empty; tested = r.here.middle; address = y.address; start = r.middle; push = r.here.push; pending = next_argument done (OfAll d) left row.pending })
     argument_goes done (OfArray d high) left row = absurd row.pending.arguments.0
     argument_goes done (OfText cs) left row = absurd row.pending.arguments.0
 
-    -- its word goes to the frame to come
-    push_goes : (first : List Item) (done : List Datum) (t : Shape) (d : Datum) (left : List Argument) (w p start : ℕ) (stack : List ℕ) → stack ≡ w ∷ [] → IsAt piece p Psh start → Pending ctx proc levels done (t ∷ []) left (RowsOf k) start c a → GivenWord ctx t d w
+    -- its words go to the frame to come
+    push_goes : (first : List Item) (done : List Datum) (t : Shape) (d : Datum) (left : List Argument) (ws : List ℕ) (p start : ℕ) (stack : List ℕ) → mstep (going m p stack) ≡ longer_row (length ws) (spliced m.store m.top ws) start [] (going m p stack) → length ws ≡ words t
+        → Pending ctx proc levels done (t ∷ []) left (RowsOf k) start c a → ((room : m.top + length ws ≤ ctx.stack.limit) → GivenWords (at_home ctx (taking ctx s m shared ws room)) t d (top_of ctx.stack.frame))
         → next ctx.library (record s { items = first; phase = Going }) ≡ record s { items = Perform (Passing (Called proc levels) (done ++ d ∷ []) left) ∷ k; phase = Going } → Goes ctx s first (going m p stack) (c + 1)
-    push_goes first done t d left w p start stack is push pending word becomes =
-        ⊎_elim (λ (less : m.limit < m.top + 1).
-        goes_full ctx s first (going m p stack) (c + 1) limit.Stack (pushing_it ∙ yes _ _ _ (lt-ltb m.limit (m.top + 1) less))
+    push_goes first done t d left ws p start stack steps long pending given becomes =
+        ⊎_elim (λ (less : m.limit < m.top + length ws).
+        goes_full ctx s first (going m p stack) (c + 1) limit.Stack (steps ∙ yes _ _ _ (lt-ltb m.limit (m.top + length ws) less))
         (subst (λ (y : Source). IsShort ctx.library ctx.stack.base y × HasCalls ctx.library y) (sym becomes)
-        (short after 1 _ less cost refl refl refl, inr (calling (current k) (pending_closed ctx k proc levels done _ left _ _ _ pending) pending.may after (refl, refl, refl, refl)))) (omega arith))
-        (λ (some : m.top + 1 ≤ m.limit). pushed_it (omega (arith, some, shared.standing.limit_is)))
-        (cases_lt m.limit (m.top + 1))
+        (short after (length ws) _ less cost refl refl refl, inr (calling (current k) (pending_closed ctx k proc levels done _ left _ _ _ pending) pending.may after (refl, refl, refl, refl)))) (omega arith))
+        (λ (some : m.top + length ws ≤ m.limit). pushed_it (omega (arith, some, shared.standing.limit_is)))
+        (cases_lt m.limit (m.top + length ws))
       where
         after : Source
         after = record s { items = Perform (Passing (Called proc levels) (done ++ d ∷ []) left) ∷ k; phase = Going }
 
-        pushing_it : mstep (going m p stack) ≡ word_row start (going m p stack) w []
-        pushing_it = at_step ctx (going m p stack) shared.program Psh start push ∙ ap (λ (z : List ℕ). on_one (going m p stack) z (word_row start (going m p stack))) is
-
-        cost : cost_of (ctx.stack.frame ∷ ctx.stack.callers) + 1 ≤ frame_of (loaded_at ctx.library s.loaded (owner_of (slice_get s.activations (current k)))) proc + 17 + chain ctx.library s.loaded s.activations k
+        cost : cost_of (ctx.stack.frame ∷ ctx.stack.callers) + length ws ≤ frame_of (loaded_at ctx.library s.loaded (owner_of (slice_get s.activations (current k)))) proc + 17 + chain ctx.library s.loaded s.activations k
         cost =
             let all = pending_cost ctx k proc levels done (t ∷ []) left start c a pending (shared_costs ctx s m shared) (λ y p c a rows costs. items_cost y k Quiet p [] c a rows costs) in
             let same : frame_of (loaded_at ctx.library s.loaded (owner_of (slice_get s.activations (current k)))) proc + 17 + chain ctx.library s.loaded s.activations k ≡ frame_of (loaded_at ctx.library ctx.loaded (owner_of (slice_get ctx.activations (current k)))) proc + 17 + chain ctx.library ctx.loaded ctx.activations k =
             ap (λ (ns : List ℕ). frame_of (loaded_at ctx.library ns (owner_of (slice_get s.activations (current k)))) proc + 17 + chain ctx.library ns s.activations k) shared.loaded_are
             ∙ ap (λ (acts : List Activation). frame_of (loaded_at ctx.library ctx.loaded (owner_of (slice_get acts (current k)))) proc + 17 + chain ctx.library ctx.loaded acts k) shared.activations_are in
-            omega (arith, all, same)
+            omega (arith, all, same, long)
 
-        pushed_it : m.top + length (w ∷ []) ≤ ctx.stack.limit → Goes ctx s first (going m p stack) (c + 1)
+        pushed_it : m.top + length ws ≤ ctx.stack.limit → Goes ctx s first (going m p stack) (c + 1)
         pushed_it room =
-            let x : Home = taking ctx s m shared (w ∷ []) room in
-            let machine : State = record m { place = start; stack = []; top = m.top + 1; store = spliced m.store m.top (w ∷ []) } in
-            let loops = pending_loops ctx k proc levels done (t ∷ []) left start c a words.mark pending in
-            let keeps : Keeps ctx.home x (frames_of ctx.stack) (ctx.stack.base + 4) (ctx.stack.frame.at + loop_place a.taken) = keeps_pushed ctx s m shared (w ∷ []) room (loop_place a.taken) loops in
+            let x : Home = taking ctx s m shared ws room in
+            let machine : State = record m { place = start; stack = []; top = m.top + length ws; store = spliced m.store m.top ws } in
+            let loops = pending_loops ctx k proc levels done (t ∷ []) left start c a words_here.mark pending in
+            let keeps : Keeps ctx.home x (frames_of ctx.stack) (ctx.stack.base + 4) (ctx.stack.frame.at + loop_place a.taken) = keeps_pushed ctx s m shared ws room (loop_place a.taken) loops in
             let kept : Pending (at_home ctx x) proc levels done (t ∷ []) left (RowsOf k) start c a =
             pending_kept k ctx.activations (λ y z i low. rows_renewed k y ctx.activations z i low) ctx x ctx.stack.limit (ctx.stack.base + 4) (stack_above ctx _ shared.standing).1 proc levels done (t ∷ []) left start c a keeps pending in
-            let word_there : w ≡ x.shadow (top_of ctx.stack.frame) = sym (ap x.shadow (let e : top_of ctx.stack.frame ≡ m.top + 0 = omega (arith, words.top_is) in e) ∙ shadow_pushed ctx s m shared (w ∷ []) room 0 (omega arith)) in
-            let given : GivenWord (at_home ctx x) t d (x.shadow (top_of ctx.stack.frame)) =
-            subst (GivenWord (at_home ctx x) t d) word_there (given_word ctx ctx.activations x ctx.stack.limit (ctx.stack.base + 4) (ctx.stack.frame.at + loop_place a.taken) keeps t d w word) in
-            goes_one_in ctx s first (going m p stack) x (pushing ctx 1).stack (c + 1) c (running machine s.world)
-            (advances (going m p stack) s.world _ (pushing_it ∙ no _ _ _ (le-ltb m.limit (m.top + 1) (omega (arith, room, shared.standing.limit_is)))))
-            (subst (λ (y : Source). Lands (pushing (at_home ctx x) 1) y.phase y (running machine s.world) c) (sym becomes)
+            goes_one_in ctx s first (going m p stack) x (pushing ctx (length ws)).stack (c + 1) c (running machine s.world)
+            (advances (going m p stack) s.world _ (steps ∙ no _ _ _ (le-ltb m.limit (m.top + length ws) (omega (arith, room, shared.standing.limit_is)))))
+            (subst (λ (y : Source). Lands (pushing (at_home ctx x) (length ws)) y.phase y (running machine s.world) c) (sym becomes)
             (record {
               machine = machine;
               is = refl;
               met = record {
-                shared = shared_pushed ctx s m shared (w ∷ []) room;
+                shared = shared_pushed ctx s m shared ws room;
                 around = a;
-                ahead = at_once (pushing (at_home ctx x) 1) _ Quiet start [] c a (record { quiet = refl; empty = refl; pending = pending_more (at_home ctx x) k proc levels done t d left start c a kept given });
+                ahead = at_once (pushing (at_home ctx x) (length ws)) _ Quiet start [] c a
+                    (record {
+                      quiet = refl;
+                      empty = refl;
+                      pending = subst (λ (n : ℕ). Pending (pushing (at_home ctx x) n) proc levels (done ++ d ∷ []) [] left (RowsOf k) start c a) (sym long) (pending_more (at_home ctx x) k proc levels done t d left start c a kept (given room));
+                    });
               };
             }))
-            (touches_pushed ctx s m shared (w ∷ []) room)
+            (touches_pushed ctx s m shared ws room)
             (record { base = refl; limit = omega arith; frames = λ i seen. inl seen })
             (omega arith)
+
+    -- the word of the frame's top is the one that was pushed
+    top_pushed : (w : ℕ) (room : m.top + length (w ∷ []) ≤ ctx.stack.limit) → (taking ctx s m shared (w ∷ []) room).shadow (top_of ctx.stack.frame) ≡ w
+    top_pushed w room =
+        ap (taking ctx s m shared (w ∷ []) room).shadow (let e : top_of ctx.stack.frame ≡ m.top + 0 = omega (arith, words_here.top_is) in e) ∙ shadow_pushed ctx s m shared (w ∷ []) room 0 (omega arith)
+
+    one_push : (w p start : ℕ) (stack : List ℕ) → stack ≡ w ∷ [] → IsAt piece p Psh start → mstep (going m p stack) ≡ longer_row 1 (spliced m.store m.top (w ∷ [])) start [] (going m p stack)
+    one_push w p start stack is push = at_step ctx (going m p stack) shared.program Psh start push ∙ ap (λ (z : List ℕ). on_one (going m p stack) z (word_row start (going m p stack))) is
 
     pub given_goes : (to : Kind) (done : List Datum) (left : List Argument) (v : Scalar) (kind : Kind) → within kind v ≡ true → Refers h kind v → (below : List ℕ) → m.stack ≡ word_for h v ∷ below → ValueWaits ctx proc levels to done left (RowsOf k) (ValueOf kind) m.place below c a
         → Goes ctx s (Value (Scalars v) ∷ Fill (Pass (Called proc levels) to done left) ∷ k) m (c + 32)
@@ -314,7 +331,8 @@ module _ (ctx : Setting) where
         row.tested (c + 32) (c + 1) (subst (λ (j : Kind). InstrsAt piece (test_code to j) m.place row.tested) (sym same) row.test) (pending_closed ctx k proc levels done _ left _ _ _ row.pending)
         (λ out. ap becomes out)
         (λ one led.
-        push_goes items done (Word to) (Scalars v) left (word_for h v) row.tested row.start m.stack stack_is row.push row.pending (record { word = refl; fits = within_base to v one; refers = led }) (ap becomes one))
+        push_goes items done (Word to) (Scalars v) left (word_for h v ∷ []) row.tested row.start m.stack (one_push (word_for h v) row.tested row.start m.stack stack_is row.push) refl row.pending
+        (λ room. alone_given ctx s m shared (word_for h v) room to v (record { word = refl; fits = within_base to v one; refers = led }) (top_pushed (word_for h v) room)) (ap becomes one))
         (omega arith)
 
     pub given_place_goes : (done : List Datum) (left : List Argument) (place : Place) (d : Designator) (below : List ℕ) → Designates ctx d place m.stack below → PlaceWaits ctx proc levels done left (RowsOf k) (AtPlace d) m.place below c a
@@ -324,7 +342,34 @@ module _ (ctx : Setting) where
         let same : d ≡ row.of = same_place d row.of row.mode in
         addressed ctx s items m shared (access_of l d) place (shape_of l.scope d) m.stack below has (omega (arith, ap length row.empty)) m.place row.tested (c + 32) (c + 1)
         (subst (λ (e : Designator). InstrsAt piece (address_code (access_of l e)) m.place row.tested) (sym same) row.address)
-        (push_goes items done (Address (shape_of l.scope d)) (Places place) left (address h place) row.tested row.start (address h place ∷ below) (ap (λ (z : List ℕ). address h place ∷ z) row.empty) row.push
+        (push_goes items done (Address (shape_of l.scope d)) (Places place) left (address h place ∷ []) row.tested row.start (address h place ∷ below)
+        (one_push (address h place) row.tested row.start (address h place ∷ below) (ap (λ (z : List ℕ). address h place ∷ z) row.empty) row.push) refl
         (subst (λ (e : Designator). Pending ctx proc levels done (Address (shape_of l.scope e) ∷ []) left (RowsOf k) row.start c a) (sym same) row.pending)
-        (record { seen = has.seen; living = has.living; there = has.there; word = refl }) refl)
+        (λ room. record { to = shape_of l.scope d; is = refl; seen = has.seen; living = has.living; there = has.there; word = top_pushed (address h place) room }) refl)
+        (omega arith)
+
+    -- all that lies at a place
+    pub given_all_goes : (done : List Datum) (left : List Argument) (place : Place) (d : Designator) (below : List ℕ) → Designates ctx d place m.stack below → AllWaits ctx proc levels done left (RowsOf k) (AtPlace d) m.place below c a
+        → Goes ctx s (Value (Places place) ∷ Fill (PassAll (Called proc levels) done left) ∷ k) m (c + 32)
+    given_all_goes done left place d below has row =
+        let items : List Item = Value (Places place) ∷ Fill (PassAll (Called proc levels) done left) ∷ k in
+        let same : d ≡ row.of = same_place d row.of row.mode in
+        let t : Shape = shape_of l.scope d in
+        let from : ℕ = address h place in
+        let ws : List ℕ = take (words t) (drop from m.store) in
+        let low : from + words t ≤ 65535 = omega (arith, place_inside h s.cells m.store place shared.mem (ap is_there has.living ∙ has.there), ap words has.living) in
+        let long : length ws ≡ words t = length-take-le (words t) (drop from m.store) (omega (arith, length-drop from m.store, shared.mem.long, low)) in
+        let push : IsAt piece row.tested (Psm (words t)) row.start = subst (λ (e : Designator). IsAt piece row.tested (Psm (words (shape_of l.scope e))) row.start) (sym same) row.push in
+        let at : State = going m row.tested (from ∷ below) in
+        let steps : mstep at ≡ longer_row (length ws) (spliced m.store m.top ws) row.start [] at =
+        at_step ctx at shared.program (Psm (words t)) row.start push
+        ∙ ap (λ (z : List ℕ). words_row (words t) row.start at from z) row.empty
+        ∙ yes _ _ _ (le-leb (from + words t) 65536 (omega (arith, low)))
+        ∙ ap (λ (xs : List ℕ). longer_row (words t) (spliced m.store m.top xs) row.start [] at) (block_alone m.store from (words t))
+        ∙ ap (λ (n : ℕ). longer_row n (spliced m.store m.top ws) row.start [] at) (sym long) in
+        addressed ctx s items m shared (access_of l d) place t m.stack below has (omega (arith, ap length row.empty)) m.place row.tested (c + 32) (c + 1)
+        (subst (λ (e : Designator). InstrsAt piece (address_code (access_of l e)) m.place row.tested) (sym same) row.address)
+        (push_goes items done t (Wholes (under s.cells place)) left ws row.tested row.start (from ∷ below) steps long
+        (subst (λ (e : Designator). Pending ctx proc levels done (shape_of l.scope e ∷ []) left (RowsOf k) row.start c a) (sym same) row.pending)
+        (λ room. block_given ctx s m shared place t has.living has.there ws room long (λ i less. get_or-take (words t) (drop from m.store) i 0 less ∙ get_or-drop from m.store i 0)) refl)
         (omega arith)

@@ -1,9 +1,10 @@
 -- The ends of procedures and bodies, RETURN and HALT.
+use Rattle.lil_resolved.specs.Kinds.{all_words}
 use Rattle.std.proofs.Common.{◌≡◌, ℕ, suc, ◌+◌, ◌<◌, ◌≤◌, Option, Some, None, List, [], ◌∷◌, map, length, ⊎_elim, refl, sym, ap, ◌∙◌, subst, arith, eq-eqb}
 use Rattle.std.proofs.lemmas.Bool.{cases_lt}
 use Rattle.lil_base.specs.declared.fault.TrapKind.TheVariants as trap
 use Rattle.lil_resolved.specs.{Kinds.Shape, Resolved.{Argument, Halt, Return}}
-use Rattle.lil_meaning.specs.{World.{World, closing, all_closed}, Closings.{all_none, all_some}, Items.{Datum, Called, Pass, PassPlace, Do, Turns, Holding, End, Item, Fill, Perform, Level, Going, Closing, Ended, Source}, Steps.{next, returned, left_by, over}}
+use Rattle.lil_meaning.specs.{World.{World, closing, all_closed}, Closings.{all_none, all_some}, Items.{Datum, Called, Pass, PassPlace, PassAll, Do, Turns, Holding, End, Item, Fill, Perform, Level, Going, Closing, Ended, Source}, Steps.{next, returned, left_by, over}}
 use Rattle.lil_asm.specs.declared.instr.Instr.TheVariants.{Rtn, Trp}
 use Rattle.lil_mcode.specs.{declared.machine.Event.TheVariants.LevelEnded, Table.{Kept, State, end_row}}
 use Rattle.lil_table.specs.Rows.{IsAt, loop_place}
@@ -117,7 +118,7 @@ returns_pending : (ctx : Setting) (q levels : ℕ) (done : List Datum) (next : L
 returns_pending ctx q levels done next left k p c a w rest =
     let r = rest w.before w.end c w.outer w.then in
     subst (λ (y : Setting). Returns y (returned k) c) (sym w.is)
-    (record { later = r.later; less = r.less; behind = behind_pushed w.before (4 + length done) (returned k) r.later w.before.stack.callers w.before.stack.bodies r.behind })
+    (record { later = r.later; less = r.less; behind = behind_pushed w.before (4 + all_words w.shapes) (returned k) r.later w.before.stack.callers w.before.stack.bodies r.behind })
 
 -- from the row of any items
 returns : (ctx : Setting) (k : List Item) (t : Mode) (p : ℕ) (stack : List ℕ) (c : ℕ) (a : Around) → Rows ctx k t p stack c a → Returns ctx (returned k) c
@@ -132,6 +133,8 @@ returns ctx (Perform (End n) ∷ k) t p stack c a r = record { later = r.later; 
 returns ctx (Fill (Pass (Called q levels) kind done left) ∷ k) t p stack c a r =
     sooner ctx (returned k) c r.later (omega (arith, r.count)) (returns_pending ctx q levels done _ left k _ r.later a r.there.pending (λ y p c a. returns y k Quiet p [] c a))
 returns ctx (Fill (PassPlace (Called q levels) done left) ∷ k) t p stack c a r =
+    sooner ctx (returned k) c r.later (omega (arith, r.count)) (returns_pending ctx q levels done _ left k _ r.later a r.there.pending (λ y p c a. returns y k Quiet p [] c a))
+returns ctx (Fill (PassAll (Called q levels) done left) ∷ k) t p stack c a r =
     sooner ctx (returned k) c r.later (omega (arith, r.count)) (returns_pending ctx q levels done _ left k _ r.later a r.there.pending (λ y p c a. returns y k Quiet p [] c a))
 returns ctx (i ∷ k) t p stack c a r = sooner ctx (returned k) c r.later (omega (arith, r.count)) (returns ctx k _ _ _ _ _ r.there.then)
 

@@ -13,7 +13,7 @@ use Rattle.lil_match.specs.{Goes.{OwnWords, Stands, IsPiece, IsHeap, IsUnborn, H
 use Rattle.lil_match.specs.{Waits.{Quiet, Around, outside, own_words, locals_in, parameters_in, top_of, is_of, sees, with_frames, Frame, Stack, frames_of, Setting, renewed, pushing, IsLink, AllGiven, PendingWaits, RowsOf, Rows, Ahead}, Known.{known_kept, each_known, each_comes, each_local, seen_within}, Kept.{EachAbove, place_lives, sees_pushed, each_handed, first_words, stack_above, stands_kept, chained_kept, loops_fit, rows_renewed}, Laid.known_part}
 use Rattle.lil_match.specs.{Costs.{cost_of, known_costs, each_costs, items_cost, top_low}, Climbs.{Climbs, climbs, first_own}, Steps.{closed, advances, at_step, at_once, rows_ahead, goes_after, goes_full, goes_one_grown}, Orders.instr_within}
 use Rattle.lil_laws_stmt.specs.{Locals.{born, IsOther, base_other, shape_other, base_there, shape_there as born_shape, owner_other, owner_there, owner_handed, mem_born, mem_entered, fresh_local}, Painting.{painted, painted_there, painted_beside, Side, Before, Between, Behind', side}, Control.body_rows}
-use Rattle.lil_laws_stmt.specs.{Calls.{Found, found, frame_known}, Given.{given_long, slots_here, handed_word, given_offset, given_cells}, Pushes.{known_repushed, links_repushed, locals_repushed, handed_repushed}}
+use Rattle.lil_laws_stmt.specs.{Calls.{Found, found, frame_known}, Given.{slots_here, handed_word, handed_low, given_cells}, Pushes.{known_repushed, links_repushed, locals_repushed, handed_repushed}}
 
 -- ---- lists of activations
 last_there : (xs : List Activation) (a : Activation) → slice_get (xs ++ a ∷ []) (length xs) ≡ Some a
@@ -58,19 +58,18 @@ doing_chain library loaded acts Empty k = refl
 doing_chain library loaded acts (Then s ss) k = let rest = doing_chain library loaded acts ss k in omega (arith, rest)
 
 -- what is known around the arguments of a call that are all there
-pub record Complete (before : Setting) (k : List Item) (proc levels : ℕ) (done : List Datum) (p c : ℕ) (a : Around) : Type 0 where
+pub record Complete (before : Setting) (k : List Item) (proc levels : ℕ) (shapes : List Shape) (done : List Datum) (p c : ℕ) (a : Around) : Type 0 where
   pub may : MayCall before.stack.frame.layout.scope proc levels
-  pub shapes : List Shape
   pub takes : parameters_of (procedure_by before.stack.frame.layout.scope.procedures proc) ≡ shapes
   pub link : IsLink before.stack.frame.display levels (before.home.shadow (top_of before.stack.frame))
-  pub given : AllGiven (pushing before (4 + length done)) shapes done (top_of before.stack.frame + 4)
+  pub given : AllGiven (pushing before (4 + all_words shapes)) shapes done (top_of before.stack.frame + 4)
   pub end : ℕ
-  pub call : IsAt before.stack.frame.piece p (Cll proc (framed (length done))) end
+  pub call : IsAt before.stack.frame.piece p (Cll proc (framed (all_words shapes))) end
   pub then : Rows before k Quiet end [] c a
 
-module _ (before : Setting) (done : List Datum) (s : Source) (k : List Item) (m : State) (c : ℕ) (a : Around) (shared : Shared (pushing before (4 + length done)) s m) (proc levels : ℕ) (w : Complete before k proc levels done m.place c a) (empty : m.stack ≡ []) where
+module _ (before : Setting) (shapes : List Shape) (done : List Datum) (s : Source) (k : List Item) (m : State) (c : ℕ) (a : Around) (shared : Shared (pushing before (4 + all_words shapes)) s m) (proc levels : ℕ) (w : Complete before k proc levels shapes done m.place c a) (empty : m.stack ≡ []) where
   abbrev ctx : Setting
-  ctx = pushing before (4 + length done)
+  ctx = pushing before (4 + all_words shapes)
 
   abbrev h : Home
   h = before.home
@@ -89,7 +88,7 @@ module _ (before : Setting) (done : List Datum) (s : Source) (k : List Item) (m 
 
   -- the frame that calls, without what is pushed
   known : IsKnown before.library before.loaded before.table before.activations before.home before.stack.frame
-  known = known_repushed f ((4 + length done) + f.pushed) f.pushed before.library before.loaded before.table before.activations before.home shared.standing.known
+  known = known_repushed f ((4 + all_words shapes) + f.pushed) f.pushed before.library before.loaded before.table before.activations before.home shared.standing.known
 
   close : current k ≡ before.stack.frame.activation
   close = closed before k _ _ _ _ _ w.then
@@ -148,24 +147,21 @@ module _ (before : Setting) (done : List Datum) (s : Source) (k : List Item) (m 
   number = numbered (procedures_of (loaded_at before.library before.loaded before.stack.frame.number)) proc its what.there
 
   -- its variables are the parameters, and those behind them
-  parameters_are : take its.parameters its.locals ≡ w.shapes
+  parameters_are : take its.parameters its.locals ≡ shapes
   parameters_are = ap (λ (o : Outline). take o.parameters o.locals) what.same ∙ sym (ap parameters_of w.may.known) ∙ w.takes
 
   abbrev others : List Shape
   others = drop its.parameters its.locals
 
-  split : w.shapes ++ drop its.parameters its.locals ≡ its.locals
+  split : shapes ++ drop its.parameters its.locals ≡ its.locals
   split = ap (λ (ts : List Shape). ts ++ drop its.parameters its.locals) (sym parameters_are) ∙ take-append-drop its.parameters its.locals
-
-  long_given : (length w.shapes ≡ length done) × (all_words w.shapes ≡ length done)
-  long_given = given_long ctx w.shapes done (top_of before.stack.frame + 4) w.given
 
   words_of : (ts us : List Shape) → all_words (ts ++ us) ≡ all_words ts + all_words us
   words_of [] us = omega arith
   words_of (t ∷ ts) us = omega (arith, words_of ts us)
 
-  all_long : all_words its.locals ≡ length done + all_words others
-  all_long = sym (ap all_words split) ∙ words_of w.shapes others ∙ ap (λ (n : ℕ). n + all_words others) long_given.1
+  all_long : all_words its.locals ≡ all_words shapes + all_words others
+  all_long = sym (ap all_words split) ∙ words_of shapes others
 
   -- ---- where all stands
   abbrev first : ℕ
@@ -174,7 +170,7 @@ module _ (before : Setting) (done : List Datum) (s : Source) (k : List Item) (m 
   taller : OwnWords before.home.owner ctx.stack.frame m.top
   taller = first_words h.owner before.stack.base m.top ctx.stack.frame before.stack.callers shared.standing.stands
 
-  top_is : m.top ≡ top_of before.stack.frame + (4 + length done)
+  top_is : m.top ≡ top_of before.stack.frame + (4 + all_words shapes)
   top_is = omega (arith, taller.top_is)
 
   words : OwnWords before.home.owner before.stack.frame (top_of before.stack.frame)
@@ -193,13 +189,13 @@ module _ (before : Setting) (done : List Datum) (s : Source) (k : List Item) (m 
   stands_here = stands before.stack.callers shared.standing.stands
 
   links_here : Chained before.home.shadow before.activations before.stack.frame before.stack.callers
-  links_here = links_repushed f ((4 + length done) + f.pushed) f.pushed before.home.shadow before.activations before.stack.callers shared.standing.links
+  links_here = links_repushed f ((4 + all_words shapes) + f.pushed) f.pushed before.home.shadow before.activations before.stack.callers shared.standing.links
 
   locals_here : EachLocal before.activations before.home (frames_of before.stack)
-  locals_here = locals_repushed f ((4 + length done) + f.pushed) f.pushed before.activations before.home (before.stack.callers ++ before.stack.bodies) shared.standing.locals
+  locals_here = locals_repushed f ((4 + all_words shapes) + f.pushed) f.pushed before.activations before.home (before.stack.callers ++ before.stack.bodies) shared.standing.locals
 
   handed_here : EachHanded before.activations before.home (before.stack.frame ∷ before.stack.callers) before.stack.bodies
-  handed_here = handed_repushed f ((4 + length done) + f.pushed) f.pushed before.activations before.home before.stack.callers before.stack.bodies shared.standing.handed
+  handed_here = handed_repushed f ((4 + all_words shapes) + f.pushed) f.pushed before.activations before.home before.stack.callers before.stack.bodies shared.standing.handed
 
   above : (before.stack.base ≤ before.stack.frame.at) × EachAbove (before.stack.base + 4) (frames_of before.stack)
   above = stack_above ctx (stack_of m) shared.standing
@@ -242,7 +238,7 @@ module _ (before : Setting) (done : List Datum) (s : Source) (k : List Item) (m 
   locals_are : locals_in frame ≡ its.locals
   locals_are = ap locals_of outline_is
 
-  parameters_here : parameters_in frame ≡ w.shapes
+  parameters_here : parameters_in frame ≡ shapes
   parameters_here = ap parameters_of outline_is ∙ parameters_are
 
   words_are : own_words frame ≡ all_words its.locals
@@ -261,16 +257,16 @@ module _ (before : Setting) (done : List Datum) (s : Source) (k : List Item) (m 
       (ap (λ (ms : List Module). module_at ms m.running) shared.program.table_is ∙ ap (module_at before.table) shared.program.running_is ∙ shared.program.known)
       ∙ ap (option_map its_entry) code.there
 
-  few : framed (length done) ≡ length done
+  few : framed (all_words shapes) ≡ all_words shapes
   few = omega (arith, top_is, shared.standing.low, shared.standing.high)
 
   calls : advanced (running m s.world) ≡ running called s.world
   calls = advances m s.world _ (
-      at_step ctx m shared.program (Cll proc (framed (length done))) w.end w.call
+      at_step ctx m shared.program (Cll proc (framed (all_words shapes))) w.end w.call
       ∙ ap (λ (n : ℕ). call_row m.running proc n w.end m) few
-      ∙ yes _ _ _ (and_from _ _ (le-leb (m.frame + 8 + length done) m.top (omega (arith, shared.standing.frame_is, words.mark, top_is))) (eq-eqb (length m.stack) 0 (ap length empty)))
-      ∙ ap (called_row m.running (m.top - length done - 4) w.end m) entry_is
-      ∙ ap (λ (at : ℕ). called_row m.running at w.end m (Some code.entry)) (let e : m.top - length done - 4 ≡ top_of before.stack.frame = omega (arith, top_is) in e)
+      ∙ yes _ _ _ (and_from _ _ (le-leb (m.frame + 8 + all_words shapes) m.top (omega (arith, shared.standing.frame_is, words.mark, top_is))) (eq-eqb (length m.stack) 0 (ap length empty)))
+      ∙ ap (called_row m.running (m.top - all_words shapes - 4) w.end m) entry_is
+      ∙ ap (λ (at : ℕ). called_row m.running at w.end m (Some code.entry)) (let e : m.top - all_words shapes - 4 ≡ top_of before.stack.frame = omega (arith, top_is) in e)
       )
 
   enters : mstep called ≡ enter_row (framed (frame_words its.locals its.body)) code.code.start called
@@ -368,15 +364,15 @@ module _ (before : Setting) (done : List Datum) (s : Source) (k : List Item) (m 
         spliced_before called.store m.top blank (top_of before.stack.frame + 1 + i) third_room (omega (arith, less, top_is))
         ∙ spliced_there m.store (top_of before.stack.frame + 1) second i second_room (omega (arith, less))
 
-    was_pushed : (i : ℕ) → i < 4 + length done → h.owner (top_of before.stack.frame + i) ≡ Own
+    was_pushed : (i : ℕ) → i < 4 + all_words shapes → h.owner (top_of before.stack.frame + i) ≡ Own
     was_pushed i less =
         ap h.owner (let e : top_of before.stack.frame + i ≡ before.stack.frame.at + (before.stack.frame.layout.frame + (before.stack.frame.pushed + i)) = omega arith in e)
         ∙ taller.own (before.stack.frame.layout.frame + (before.stack.frame.pushed + i)) (inr (omega (arith, words.mark))) (omega (arith, less, top_is))
 
-    pushed_there : (i : ℕ) → i < 4 + length done → get_or m.store (top_of before.stack.frame + i) 0 ≡ h.shadow (top_of before.stack.frame + i)
+    pushed_there : (i : ℕ) → i < 4 + all_words shapes → get_or m.store (top_of before.stack.frame + i) 0 ≡ h.shadow (top_of before.stack.frame + i)
     pushed_there i less = shared.mem.kept (top_of before.stack.frame + i) (was_pushed i less)
 
-    given_there : (i : ℕ) → i < length done → get_or inside.store (top_of before.stack.frame + 4 + i) 0 ≡ h.shadow (top_of before.stack.frame + 4 + i)
+    given_there : (i : ℕ) → i < all_words shapes → get_or inside.store (top_of before.stack.frame + 4 + i) 0 ≡ h.shadow (top_of before.stack.frame + 4 + i)
     given_there i less =
         spliced_before called.store m.top blank (top_of before.stack.frame + 4 + i) third_room (omega (arith, less, top_is))
         ∙ spliced_after m.store (top_of before.stack.frame + 1) second (top_of before.stack.frame + 4 + i) second_room (omega arith)
@@ -437,7 +433,7 @@ module _ (before : Setting) (done : List Datum) (s : Source) (k : List Item) (m 
     cell_there : (y o : ℕ) (t : Shape) (q : List ℕ) (j : Kind) → slice_get (offsets_from 4 its.locals) y ≡ Some o → slice_get its.locals y ≡ Some t → is_there t ≡ true → part_at t q ≡ Word j
         → IsWord mid j (with_locals s.cells (length s.activations) done its.locals (Local (length s.activations) (0 + y)) q) (get_or inside.store (top_of before.stack.frame + o + part_offset t q) 0)
     cell_there y o t q j at typed there is =
-        let word = given_cells ctx inside.store (top_of before.stack.frame) w.shapes done others 4 w.given given_there
+        let word = given_cells ctx inside.store (top_of before.stack.frame) shapes done others 4 w.given given_there
         (λ i from below. zero_there i (omega (arith, from, top_is)) (omega (arith, below, all_long)))
         y o t q j (ap (λ (ts : List Shape). slice_get (offsets_from 4 ts) y) split ∙ at) (ap (λ (ts : List Shape). slice_get ts y) split ∙ typed) there is in
         let cell = ap (λ (z : ℕ). with_locals s.cells (length s.activations) done its.locals (Local (length s.activations) z) q) (none_more y) ∙ fresh_local s.cells (length s.activations) done its.locals y t q typed in
@@ -584,7 +580,7 @@ module _ (before : Setting) (done : List Datum) (s : Source) (k : List Item) (m 
       variables = λ y offset t at typed there.
           let at_here = ap (λ (ts : List Shape). slice_get (offsets_from 4 ts) y) (sym locals_are) ∙ at in
           let typed_here = ap (λ (ts : List Shape). slice_get ts y) (sym locals_are) ∙ typed in (
-            ap (λ (ts : List Shape). slice_get (slots_by done ts) y) (sym split) ∙ slots_here ctx w.shapes done others (top_of before.stack.frame + 4) y t w.given (ap (λ (ts : List Shape). slice_get ts y) split ∙ typed_here) there,
+            ap (λ (ts : List Shape). slice_get (slots_by done ts) y) (sym split) ∙ slots_here ctx shapes done others (top_of before.stack.frame + 4) y t w.given (ap (λ (ts : List Shape). slice_get ts y) split ∙ typed_here) there,
             ap (λ (j : ℕ). x.shape (Local (length s.activations) j)) (sym (none_more y)) ∙ born_shape (length s.activations) 0 its.locals before.home.shape y t typed_here there,
             ap (λ (j : ℕ). x.base (Local (length s.activations) j)) (sym (none_more y)) ∙ base_there (length s.activations) 0 (top_of before.stack.frame + 4) (top_of before.stack.frame) 4 its.locals before.home.base refl y offset at_here,
           );
@@ -595,26 +591,30 @@ module _ (before : Setting) (done : List Datum) (s : Source) (k : List Item) (m 
     new_handed y o t at typed there =
         let at_here = ap (λ (ts : List Shape). slice_get (offsets_from 4 ts) y) (sym locals_are) ∙ at in
         let typed_here : slice_get its.locals y ≡ Some (Address t) = ap (λ (ts : List Shape). slice_get ts y) (sym locals_are) ∙ parameter_variable code.inner.scope 0 y (Address t) typed in
-        let one = handed_word ctx w.shapes done others (top_of before.stack.frame + 4) y t w.given (ap (λ (ts : List Shape). slice_get ts y) (sym parameters_here) ∙ typed) in
+        let typed_given = ap (λ (ts : List Shape). slice_get ts y) (sym parameters_here) ∙ typed in
+        let at_given = ap (λ (ts : List Shape). slice_get (offsets_from 4 ts) y) split ∙ at_here in
+        let one = handed_word ctx shapes done others (top_of before.stack.frame) 4 y o t w.given at_given typed_given in
+        let lies = handed_low ctx shapes others 4 y o t at_given typed_given in
+        let i : ℕ = o - 4 in
         let place = one.place in
-        let o_is : o ≡ 4 + y = given_offset ctx w.shapes done others (top_of before.stack.frame + 4) 4 y o w.given (ap (λ (ts : List Shape). slice_get (offsets_from 4 ts) y) split ∙ at_here) one.less in
-        let seen : sees (frames_of before.stack) place.root ≡ true = sym (sees_pushed before.stack.frame ((4 + length done) + before.stack.frame.pushed) (before.stack.callers ++ before.stack.bodies) place.root) ∙ one.given.seen in
-        let alive = place_lives before.home place t one.given.living one.given.there in
+        let seen : sees (frames_of before.stack) place.root ≡ true = sym (sees_pushed before.stack.frame ((4 + all_words shapes) + before.stack.frame.pushed) (before.stack.callers ++ before.stack.bodies) place.root) ∙ one.seen in
+        let alive = place_lives before.home place t one.living one.there in
         let same = shape_kept place.root alive in
         let moved : address before.home place ≡ address x place = omega (arith, base_kept place.root alive, ap (λ (z : Shape). part_offset z place.path) same) in
-        let inside_it : top_of before.stack.frame + o < top_of before.stack.frame + frame_words its.locals its.body = omega (arith, o_is, one.less, all_long) in
+        let inside_it : top_of before.stack.frame + o < top_of before.stack.frame + frame_words its.locals its.body = omega (arith, lies.1, all_long) in
         record {
           its = new;
           runs = runs;
           place = place;
           slot = ap (λ (ts : List Shape). slice_get (slots_by done ts) y) (sym split) ∙ one.slot;
           seen = seen;
-          living = ap (λ (z : Shape). part_at z place.path) same ∙ one.given.living;
+          living = ap (λ (z : Shape). part_at z place.path) same ∙ one.living;
           own = owner_handed (length s.activations) 0 (top_of before.stack.frame + 4) (top_of before.stack.frame) 4 its.locals mid.owner refl y o t at_here typed_here ∙ mid_own (top_of before.stack.frame + o) (omega arith) inside_it;
           word = shadow_there (top_of before.stack.frame + o) (omega arith) inside_it
-              ∙ ap (λ (i : ℕ). get_or inside.store i 0) (let e : top_of before.stack.frame + o ≡ top_of before.stack.frame + 4 + y = omega (arith, o_is) in e)
-              ∙ given_there y one.less
-              ∙ one.given.word
+              ∙ ap (λ (j : ℕ). get_or inside.store j 0) (let e : top_of before.stack.frame + o ≡ top_of before.stack.frame + 4 + (o - 4) = omega (arith, lies.0) in e)
+              ∙ given_there i (omega (arith, lies.0, lies.1))
+              ∙ ap h.shadow (let e : top_of before.stack.frame + 4 + (o - 4) ≡ top_of before.stack.frame + o = omega (arith, lies.0) in e)
+              ∙ one.word
               ∙ moved;
         }
 
@@ -757,18 +757,17 @@ pub enter_goes : (ctx : Setting) (s : Source) (k : List Item) (m : State) (c : �
     → Goes ctx s (Perform (Passing (Called proc levels) done []) ∷ k) m (c + 32)
 enter_goes ctx s k m c a shared proc levels done row =
     let w = row.pending in
-    let here = subst (λ (p : ℕ). IsAt ctx.stack.frame.piece p (Cll proc (framed (length done))) w.end) (sym w.arguments)
-    (subst (λ (n : ℕ). IsAt ctx.stack.frame.piece w.middle (Cll proc (framed n)) w.end) (let e : length done + (0 + 0) ≡ length done = omega arith in e) w.call) in
+    let here = subst (λ (p : ℕ). IsAt ctx.stack.frame.piece p (Cll proc (framed (all_words w.shapes))) w.end) (sym w.arguments)
+    (subst (λ (n : ℕ). IsAt ctx.stack.frame.piece w.middle (Cll proc (framed n)) w.end) (let e : all_words w.shapes + (0 + 0) ≡ all_words w.shapes = omega arith in e) w.call) in
     subst (λ (y : Setting). Goes y s (Perform (Passing (Called proc levels) done []) ∷ k) m (c + 32)) (sym w.is)
-    (complete_goes w.before done s k m c w.outer (subst (λ (y : Setting). Shared y s m) w.is shared) proc levels
+    (complete_goes w.before w.shapes done s k m c w.outer (subst (λ (y : Setting). Shared y s m) w.is shared) proc levels
     (record {
       may = subst (λ (y : Setting). MayCall y.stack.frame.layout.scope proc levels) w.is w.may;
-      shapes = w.shapes;
       takes = subst (λ (y : Setting). parameters_of (procedure_by y.stack.frame.layout.scope.procedures proc) ≡ w.shapes) w.is (w.takes ∙ append-nil w.shapes);
       link = subst (λ (y : Setting). IsLink y.stack.frame.display levels (y.home.shadow (top_of w.before.stack.frame))) w.is w.link;
       given = subst (λ (y : Setting). AllGiven y w.shapes done (top_of w.before.stack.frame + 4)) w.is w.given;
       end = w.end;
-      call = subst (λ (y : Setting). IsAt y.stack.frame.piece m.place (Cll proc (framed (length done))) w.end) w.is here;
+      call = subst (λ (y : Setting). IsAt y.stack.frame.piece m.place (Cll proc (framed (all_words w.shapes))) w.end) w.is here;
       then = w.then;
     })
     row.empty)

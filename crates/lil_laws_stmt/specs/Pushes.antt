@@ -1,8 +1,13 @@
 -- Words of a call that go above the running frame: its mark, and its arguments.
+use Rattle.lil_resolved.specs.Kinds.{Kind, Scalar, Absent, words, is_there, part_at, offset as part_offset, all_words}
+use Rattle.lil_meaning.specs.Items.{Place, Wholes, Opens, Texts, under}
+use Rattle.lil_match.specs.Homes.{IsWord, is_word_kept, address, shape_there}
+use Rattle.lil_match.specs.Parts.{part_append, offset_append as part_offset_append, part_fits, word_long}
+use Rattle.lil_table.specs.Rows.{given_words}
 use Rattle.lil_resolved.specs.Resolved.{Resolved, Argument}
 use Rattle.lil_meaning.specs.Items.{Activation, Item}
 use Rattle.lil_mcode.specs.Table.{Module}
-use Rattle.std.proofs.Common.{append_assoc, map}
+use Rattle.std.proofs.Common.{append_assoc, map, true}
 use Rattle.std.proofs.lemmas.List.{length_push}
 use Rattle.lil_match.specs.Waits.{Around, RowsOf, Pending, top_of}
 use Rattle.lil_asm.specs.declared.instr.Instr.TheVariants.{Cll}
@@ -14,27 +19,39 @@ use Rattle.lil_meaning.specs.Items.{Local, Datum, Scalars, Places, Source}
 use Rattle.lil_mcode.specs.Table.{State, stack_of}
 use Rattle.lil_frames.specs.Words.{spliced}
 use Rattle.lil_match.specs.{Homes.{Own, Of, Fixed, Free, Home, Mem, Stays, Turns, mem_turned, extends_self}, Splices.{spliced_length, spliced_before, spliced_there, spliced_after}, Goes.{OwnWords, Stands, Chained, EachHanded, EachLocal, IsKnown, Shared, Touches}, Laid.known_part}
-use Rattle.lil_match.specs.{Waits.{Frame, own_words, frames_of, Setting, at_home, pushing, GivenWord, AllGiven}, Known.{known_kept, each_known, each_comes, each_local}, Kept.{Keeps, EachAbove, sees_pushed, each_handed, first_words, stack_above, stands_kept, chained_kept}}
+use Rattle.lil_match.specs.{Waits.{Frame, own_words, frames_of, Setting, at_home, pushing, GivenWords, AllGiven}, Known.{known_kept, each_known, each_comes, each_local}, Kept.{Keeps, EachAbove, sees_pushed, each_handed, first_words, stack_above, stands_kept, chained_kept}}
 use Rattle.lil_laws_stmt.specs.Painting.{free_fixed, painted, painted_there, painted_beside, Side, Before, Between, Behind', side}
 
+none_under : (x : ℕ) (q : List ℕ) (k j : Kind) → part_at (Word k) (x ∷ q) ≡ Word j → ⊥
+none_under x q k j e = (let gone : Absent ≡ Word j = e in cc)
+
+same_kind : (k j : Kind) → Word k ≡ Word j → k ≡ j
+same_kind k j e = cc
+
 -- what was given doesn't hang on what is pushed
-pub given_pushed : (ctx : Setting) (n : ℕ) (ts : List Shape) (ds : List Datum) (at : ℕ) → AllGiven ctx ts ds at → AllGiven (pushing ctx n) ts ds at
+pub words_pushed : (ctx : Setting) (n : ℕ) (t : Shape) (d : Datum) (at : ℕ) → GivenWords ctx t d at → GivenWords (pushing ctx n) t d at
+words_pushed ctx n t (Scalars v) at r = record { there = r.there; cells = r.cells }
+words_pushed ctx n t (Wholes u) at r = record { there = r.there; cells = r.cells }
+words_pushed ctx n t (Places place) at r =
+    record { to = r.to; is = r.is; seen = sees_pushed ctx.stack.frame (n + ctx.stack.frame.pushed) (ctx.stack.callers ++ ctx.stack.bodies) place.root ∙ r.seen; living = r.living; there = r.there; word = r.word }
+words_pushed ctx n t (Opens place high) at r = absurd r
+words_pushed ctx n t (Texts cs) at r = absurd r
+
+given_pushed : (ctx : Setting) (n : ℕ) (ts : List Shape) (ds : List Datum) (at : ℕ) → AllGiven ctx ts ds at → AllGiven (pushing ctx n) ts ds at
 given_pushed ctx n [] [] at r = r
-given_pushed ctx n (t ∷ ts) (d ∷ ds) at r = (word t d (ctx.home.shadow at) r.0, given_pushed ctx n ts ds (suc at) r.1)
-  where
-    word : (t : Shape) (d : Datum) (w : ℕ) → GivenWord ctx t d w → GivenWord (pushing ctx n) t d w
-    word (Word k) (Scalars v) w r = r
-    word (Address t) (Places place) w r =
-        record { seen = sees_pushed ctx.stack.frame (n + ctx.stack.frame.pushed) (ctx.stack.callers ++ ctx.stack.bodies) place.root ∙ r.seen; living = r.living; there = r.there; word = r.word }
-    word t d w r = absurd r
+given_pushed ctx n (t ∷ ts) (d ∷ ds) at r = (words_pushed ctx n t d at r.0, given_pushed ctx n ts ds (at + words t) r.1)
 given_pushed ctx n ts ds at r = absurd r
 
 -- one more was given
-pub given_more : (ctx : Setting) (ts : List Shape) (ds : List Datum) (at : ℕ) (t : Shape) (d : Datum) → AllGiven ctx ts ds at → GivenWord ctx t d (ctx.home.shadow (at + length ds)) → AllGiven ctx (ts ++ t ∷ []) (ds ++ d ∷ []) at
-given_more ctx [] [] at t d r one = (subst (λ (i : ℕ). GivenWord ctx t d (ctx.home.shadow i)) (let e : at + 0 ≡ at = omega arith in e) one, tt)
+given_more : (ctx : Setting) (ts : List Shape) (ds : List Datum) (at : ℕ) (t : Shape) (d : Datum) → AllGiven ctx ts ds at → GivenWords ctx t d (at + all_words ts) → AllGiven ctx (ts ++ t ∷ []) (ds ++ d ∷ []) at
+given_more ctx [] [] at t d r one = (subst (GivenWords ctx t d) (let e : at + 0 ≡ at = omega arith in e) one, tt)
 given_more ctx (u ∷ ts) (e ∷ ds) at t d r one =
-    (r.0, given_more ctx ts ds (suc at) t d r.1 (subst (λ (i : ℕ). GivenWord ctx t d (ctx.home.shadow i)) (let e : at + suc (length ds) ≡ suc at + length ds = omega arith in e) one))
+    (r.0, given_more ctx ts ds (at + words u) t d r.1 (subst (GivenWords ctx t d) (let f : at + (words u + all_words ts) ≡ at + words u + all_words ts = omega arith in f) one))
 given_more ctx ts ds at t d r one = absurd r
+
+more_words : (ts : List Shape) (t : Shape) → all_words (ts ++ t ∷ []) ≡ all_words ts + words t
+more_words [] t = omega arith
+more_words (u ∷ ts) t = omega (arith, more_words ts t)
 
 -- ---- the same frame, with other words of calls above it
 module _ (f : Frame) (n more : ℕ) where
@@ -74,8 +91,8 @@ module _ (ctx : Setting) (s : Source) (m : State) (shared : Shared ctx s m) (ws 
     shadow = painted ctx.home.shadow m.top (m.top + length ws) (λ i. get_or (spliced m.store m.top ws) i 0);
   }
 
-  words : OwnWords h.owner st.frame m.top
-  words = first_words h.owner st.base m.top st.frame st.callers shared.standing.stands
+  mine_first : OwnWords h.owner st.frame m.top
+  mine_first = first_words h.owner st.base m.top st.frame st.callers shared.standing.stands
 
   above : (ctx.stack.base ≤ ctx.stack.frame.at) × EachAbove (ctx.stack.base + 4) (frames_of ctx.stack)
   above = stack_above ctx (stack_of m) shared.standing
@@ -139,25 +156,25 @@ module _ (ctx : Setting) (s : Source) (m : State) (shared : Shared ctx s m) (ws 
 
   own_taller : OwnWords taking.owner taller (m.top + length ws)
   own_taller = record {
-    mark = words.mark;
-    top_is = omega (arith, words.top_is);
+    mark = mine_first.mark;
+    top_is = omega (arith, mine_first.top_is);
     own = λ i free less. by i (side m.top (m.top + length ws) (ctx.stack.frame.at + i)) free less;
     mine = λ i less. mine i (side m.top (m.top + length ws) (ctx.stack.frame.at + i)) less;
   }
     where
       by : (i : ℕ) → Side m.top (m.top + length ws) (ctx.stack.frame.at + i) → (i < 4) ⊎ (4 + own_words ctx.stack.frame ≤ i) → ctx.stack.frame.at + i < m.top + length ws → taking.owner (ctx.stack.frame.at + i) ≡ Own
-      by i (Before z) free less = owner_beside (ctx.stack.frame.at + i) (inl z) ∙ words.own i free z
+      by i (Before z) free less = owner_beside (ctx.stack.frame.at + i) (inl z) ∙ mine_first.own i free z
       by i (Between z y) free less = owner_there (ctx.stack.frame.at + i) z y
       by i (Behind' z y) free less = absurd (omega (arith, y, less))
 
       mine : (i : ℕ) → Side m.top (m.top + length ws) (ctx.stack.frame.at + i) → ctx.stack.frame.at + i < m.top + length ws → (taking.owner (ctx.stack.frame.at + i) ≡ Own) ⊎ ((x : ℕ) × (taking.owner (ctx.stack.frame.at + i) ≡ Of (Local ctx.stack.frame.activation x)))
-      mine i (Before z) less = ⊎_elim (λ own. inl (owner_beside (ctx.stack.frame.at + i) (inl z) ∙ own)) (λ one. inr (one.0, owner_beside (ctx.stack.frame.at + i) (inl z) ∙ one.1)) (words.mine i z)
+      mine i (Before z) less = ⊎_elim (λ own. inl (owner_beside (ctx.stack.frame.at + i) (inl z) ∙ own)) (λ one. inr (one.0, owner_beside (ctx.stack.frame.at + i) (inl z) ∙ one.1)) (mine_first.mine i z)
       mine i (Between z y) less = inl (owner_there (ctx.stack.frame.at + i) z y)
       mine i (Behind' z y) less = absurd (omega (arith, y, less))
 
   stands : (gs : List Frame) → Stands ctx.home.owner ctx.stack.base m.top ctx.stack.frame gs → Stands taking.owner ctx.stack.base (m.top + length ws) taller gs
   stands [] s = (own_taller, s.1)
-  stands (g ∷ gs) s = (own_taller, stands_kept h.owner taking.owner ctx.stack.base ctx.stack.frame.at g gs (λ i from below. owner_beside i (inl (omega (arith, below, words.top_is)))) s.1)
+  stands (g ∷ gs) s = (own_taller, stands_kept h.owner taking.owner ctx.stack.base ctx.stack.frame.at g gs (λ i from below. owner_beside i (inl (omega (arith, below, mine_first.top_is)))) s.1)
 
   -- THE law of pushed words: all stands as before, with them
   pub shared_pushed : Shared (pushing (at_home ctx (record (ctx.home) {
@@ -180,10 +197,10 @@ module _ (ctx : Setting) (s : Source) (m : State) (shared : Shared ctx s m) (ws 
           callers = each_known ctx.library ctx.loaded ctx.table ctx.activations ctx.activations (λ i b e. e) h taking (λ n y. refl) (λ n y. refl) refl fixed_kept st.callers g.callers;
           comes = each_comes ctx.library ctx.loaded ctx.table ctx.activations ctx.activations (λ i b e. e) h taking (λ n y. refl) (λ n y. refl) refl fixed_kept st.base st.bodies g.comes;
           stands = stands ctx.stack.callers g.stands;
-          links = links_repushed ctx.stack.frame ctx.stack.frame.pushed (length ws + ctx.stack.frame.pushed) taking.shadow ctx.activations ctx.stack.callers (chained_kept h.shadow taking.shadow ctx.activations ctx.activations (λ i b e. e) h.owner st.base m.top st.frame st.callers g.stands (λ i from below. shadow_beside i (inl (omega (arith, below, words.mark, words.top_is)))) g.links);
+          links = links_repushed ctx.stack.frame ctx.stack.frame.pushed (length ws + ctx.stack.frame.pushed) taking.shadow ctx.activations ctx.stack.callers (chained_kept h.shadow taking.shadow ctx.activations ctx.activations (λ i b e. e) h.owner st.base m.top st.frame st.callers g.stands (λ i from below. shadow_beside i (inl (omega (arith, below, mine_first.mark, mine_first.top_is)))) g.links);
           locals = locals_repushed ctx.stack.frame ctx.stack.frame.pushed (length ws + ctx.stack.frame.pushed) ctx.activations taking (ctx.stack.callers ++ ctx.stack.bodies) (each_local ctx.activations ctx.activations (λ i b e. e) h taking (frames_of ctx.stack) (λ r seen e. refl) (λ r seen e. refl) g.locals);
           handed = handed_repushed ctx.stack.frame ctx.stack.frame.pushed (length ws + ctx.stack.frame.pushed) ctx.activations taking ctx.stack.callers ctx.stack.bodies (each_handed ctx.activations ctx.activations (λ i b e. e) h taking st.bodies st.base m.top st.frame st.callers g.stands
-              (λ i from below. let away : Beside i = inl (omega (arith, below, words.mark, words.top_is)) in (owner_beside i away, shadow_beside i away)) (λ r seen e. refl) (λ r seen e. refl) g.handed);
+              (λ i from below. let away : Beside i = inl (omega (arith, below, mine_first.mark, mine_first.top_is)) in (owner_beside i away, shadow_beside i away)) (λ r seen e. refl) (λ r seen e. refl) g.handed);
           room = λ i from below. owner_beside i (inr (omega (arith, from), from)) ∙ g.room i (omega (arith, from)) below;
           based = g.based;
           low = room;
@@ -198,8 +215,8 @@ module _ (ctx : Setting) (s : Source) (m : State) (shared : Shared ctx s m) (ws 
 
   pub touches_pushed : Touches ctx.home taking (frames_of ctx.stack) ctx.stack.base ctx.stack.limit
   touches_pushed = record {
-    owner = λ i o. owner_beside i (⊎_elim (λ (z : i < ctx.stack.base). inl (omega (arith, z, above.0, words.top_is))) (λ (z : ctx.stack.limit ≤ i). inr (omega (arith, z, room), omega (arith, z, room))) o);
-    shadow = λ i o. shadow_beside i (⊎_elim (λ (z : i < ctx.stack.base). inl (omega (arith, z, above.0, words.top_is))) (λ (z : ctx.stack.limit ≤ i). inr (omega (arith, z, room), omega (arith, z, room))) o);
+    owner = λ i o. owner_beside i (⊎_elim (λ (z : i < ctx.stack.base). inl (omega (arith, z, above.0, mine_first.top_is))) (λ (z : ctx.stack.limit ≤ i). inr (omega (arith, z, room), omega (arith, z, room))) o);
+    shadow = λ i o. shadow_beside i (⊎_elim (λ (z : i < ctx.stack.base). inl (omega (arith, z, above.0, mine_first.top_is))) (λ (z : ctx.stack.limit ≤ i). inr (omega (arith, z, room), omega (arith, z, room))) o);
     base = λ r away e. refl;
     shape = λ r away e. refl;
     targets = refl;
@@ -210,8 +227,8 @@ module _ (ctx : Setting) (s : Source) (m : State) (shared : Shared ctx s m) (ws 
   -- the words below the topmost one stay
   pub keeps_pushed : (n : ℕ) → n ≤ ctx.stack.frame.layout.frame → Keeps ctx.home taking (frames_of ctx.stack) (ctx.stack.base + 4) (ctx.stack.frame.at + n)
   keeps_pushed n less = record {
-    pushed = λ i small. shadow_beside (ctx.stack.frame.at + (ctx.stack.frame.layout.frame + i)) (inl (omega (arith, small, words.top_is)));
-    shadow = λ i from below. shadow_beside i (inl (omega (arith, below, less, words.top_is)));
+    pushed = λ i small. shadow_beside (ctx.stack.frame.at + (ctx.stack.frame.layout.frame + i)) (inl (omega (arith, small, mine_first.top_is)));
+    shadow = λ i from below. shadow_beside i (inl (omega (arith, below, less, mine_first.top_is)));
     base = λ r seen e. refl;
     shape = λ r seen e. refl;
     targets = refl;
@@ -219,29 +236,67 @@ module _ (ctx : Setting) (s : Source) (m : State) (shared : Shared ctx s m) (ws 
   }
 
 -- the next argument was pushed
-pub pending_more : (ctx : Setting) (k : List Item) (q levels : ℕ) (done : List Datum) (t : Shape) (d : Datum) (left : List Argument) (p c : ℕ) (a : Around) → Pending ctx q levels done (t ∷ []) left (RowsOf k) p c a → GivenWord ctx t d (ctx.home.shadow (top_of ctx.stack.frame))
-    → Pending (pushing ctx 1) q levels (done ++ d ∷ []) [] left (RowsOf k) p c a
+pub pending_more : (ctx : Setting) (k : List Item) (q levels : ℕ) (done : List Datum) (t : Shape) (d : Datum) (left : List Argument) (p c : ℕ) (a : Around) → Pending ctx q levels done (t ∷ []) left (RowsOf k) p c a → GivenWords ctx t d (top_of ctx.stack.frame)
+    → Pending (pushing ctx (words t)) q levels (done ++ d ∷ []) [] left (RowsOf k) p c a
 pending_more ctx k q levels done t d left p c a w word =
-    let long : length (done ++ d ∷ []) ≡ length done + 1 = length_push done d in
-    let top : top_of ctx.stack.frame ≡ top_of w.before.stack.frame + 4 + length done =
+    let long : all_words (w.shapes ++ t ∷ []) ≡ all_words w.shapes + words t = more_words w.shapes t in
+    let top : top_of ctx.stack.frame ≡ top_of w.before.stack.frame + 4 + all_words w.shapes =
     omega (arith, ap (λ (y : Setting). y.stack.frame.at) w.is, ap (λ (y : Setting). y.stack.frame.layout.frame) w.is, ap (λ (y : Setting). y.stack.frame.pushed) w.is) in
     record {
       before = w.before;
-      is = ap (λ (y : Setting). pushing y 1) w.is
-          ∙ ap (λ (n : ℕ). record (w.before) { stack = record (w.before.stack) { frame = record (w.before.stack.frame) { pushed = n } } }) (let e : 1 + ((4 + length done) + w.before.stack.frame.pushed) ≡ (4 + length (done ++ d ∷ [])) + w.before.stack.frame.pushed = omega (arith, long) in e);
+      shapes = w.shapes ++ t ∷ [];
+      is = ap (λ (y : Setting). pushing y (words t)) w.is
+          ∙ ap (λ (n : ℕ). record (w.before) { stack = record (w.before.stack) { frame = record (w.before.stack.frame) { pushed = n } } }) (let e : words t + ((4 + all_words w.shapes) + w.before.stack.frame.pushed) ≡ (4 + all_words (w.shapes ++ t ∷ [])) + w.before.stack.frame.pushed = omega (arith, long) in e);
       outer = w.outer;
       around = w.around;
       may = w.may;
-      shapes = w.shapes ++ t ∷ [];
       takes = w.takes ∙ sym (append_assoc w.shapes (t ∷ []) (map (parameter_of ctx.stack.frame.layout.scope) left));
       room = omega (arith, w.room, long);
       link = w.link;
-      given = given_pushed ctx 1 (w.shapes ++ t ∷ []) (done ++ d ∷ []) (top_of w.before.stack.frame + 4)
-          (given_more ctx w.shapes done (top_of w.before.stack.frame + 4) t d w.given (subst (λ (i : ℕ). GivenWord ctx t d (ctx.home.shadow i)) top word));
+      given = given_pushed ctx (words t) (w.shapes ++ t ∷ []) (done ++ d ∷ []) (top_of w.before.stack.frame + 4)
+          (given_more ctx w.shapes done (top_of w.before.stack.frame + 4) t d w.given (subst (GivenWords ctx t d) top word));
       middle = w.middle;
       arguments = w.arguments;
       end = w.end;
-      call = subst (λ (n : ℕ). IsAt ctx.stack.frame.piece w.middle (Cll q (framed n)) w.end) (let e : length done + (1 + length left) ≡ length (done ++ d ∷ []) + (0 + length left) = omega (arith, long) in e) w.call;
+      call = subst (λ (n : ℕ). IsAt ctx.stack.frame.piece w.middle (Cll q (framed n)) w.end)
+          (let e : all_words w.shapes + ((words t + 0) + given_words ctx.stack.frame.layout.scope left) ≡ all_words (w.shapes ++ t ∷ []) + (0 + given_words ctx.stack.frame.layout.scope left) = omega (arith, long) in e) w.call;
       within = w.within;
       then = w.then;
     }
+
+-- a scalar whose word was pushed
+pub alone_given : (ctx : Setting) (s : Source) (m : State) (shared : Shared ctx s m) (w : ℕ) (room : m.top + length (w ∷ []) ≤ ctx.stack.limit) (k : Kind) (v : Scalar) → IsWord ctx.home k v w
+    → (taking ctx s m shared (w ∷ []) room).shadow (top_of ctx.stack.frame) ≡ w → GivenWords (at_home ctx (taking ctx s m shared (w ∷ []) room)) (Word k) (Scalars v) (top_of ctx.stack.frame)
+alone_given ctx s m shared w room k v word top = record { there = refl; cells = cells }
+  where
+    cells : (q : List ℕ) (j : Kind) → part_at (Word k) q ≡ Word j → IsWord (taking ctx s m shared (w ∷ []) room) j v ((taking ctx s m shared (w ∷ []) room).shadow (top_of ctx.stack.frame + part_offset (Word k) q))
+    cells [] j e =
+        let there : w ≡ (taking ctx s m shared (w ∷ []) room).shadow (top_of ctx.stack.frame + 0) = sym top ∙ ap (taking ctx s m shared (w ∷ []) room).shadow (let f : top_of ctx.stack.frame ≡ top_of ctx.stack.frame + 0 = omega arith in f) in
+        is_word_kept ctx.home (taking ctx s m shared (w ∷ []) room) (λ o e. refl) (λ o e. refl) refl (extends_self ctx.home.workspaces) j v _
+        (subst (λ (z : Kind). IsWord ctx.home z v ((taking ctx s m shared (w ∷ []) room).shadow (top_of ctx.stack.frame + 0))) (same_kind k j e) (subst (IsWord ctx.home k v) there word))
+    cells (x ∷ q) j e = absurd (none_under x q k j e)
+
+-- all scalars of a place whose words were pushed
+pub block_given : (ctx : Setting) (s : Source) (m : State) (shared : Shared ctx s m) (place : Place) (t : Shape) → shape_there ctx.home place ≡ t → is_there t ≡ true → (ws : List ℕ) (room : m.top + length ws ≤ ctx.stack.limit) → length ws ≡ words t
+    → ((i : ℕ) → i < words t → get_or ws i 0 ≡ get_or m.store (address ctx.home place + i) 0) → GivenWords (at_home ctx (taking ctx s m shared ws room)) t (Wholes (under s.cells place)) (top_of ctx.stack.frame)
+block_given ctx s m shared place t living there ws room long same = record {
+  there = there;
+  cells = λ q k is.
+      let x : Home = taking ctx s m shared ws room in
+      let h : Home = ctx.home in
+      let top = first_words h.owner ctx.stack.base m.top ctx.stack.frame ctx.stack.callers shared.standing.stands in
+      let alive : is_there (part_at (h.shape place.root) place.path) ≡ true = ap is_there living ∙ there in
+      let typed : part_at (h.shape place.root) (place.path ++ q) ≡ Word k = part_append (h.shape place.root) place.path q alive ∙ ap (λ (z : Shape). part_at z q) living ∙ is in
+      let old = shared.mem.holds place.root (place.path ++ q) k typed in
+      let small : part_offset t q < words t = omega (arith, part_fits t q (ap is_there is), word_long (part_at t q) k is) in
+      let at : address h place + part_offset t q ≡ h.base place.root + part_offset (h.shape place.root) (place.path ++ q) =
+      omega (arith, part_offset_append (h.shape place.root) place.path q alive, ap (λ (z : Shape). part_offset z q) living) in
+      let word : get_or m.store (h.base place.root + part_offset (h.shape place.root) (place.path ++ q)) 0 ≡ x.shadow (top_of ctx.stack.frame + part_offset t q) =
+      sym (
+      ap x.shadow (let e : top_of ctx.stack.frame + part_offset t q ≡ m.top + part_offset t q = omega (arith, top.top_is) in e)
+      ∙ shadow_pushed ctx s m shared ws room (part_offset t q) (omega (arith, small, long))
+      ∙ same (part_offset t q) small
+      ∙ ap (λ (i : ℕ). get_or m.store i 0) at
+      ) in
+      is_word_kept h x (λ o e. refl) (λ o e. refl) refl (extends_self h.workspaces) k (under s.cells place q) _ (subst (IsWord h k (under s.cells place q)) word old);
+}

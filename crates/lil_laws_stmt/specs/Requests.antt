@@ -5,13 +5,13 @@ use Rattle.std.proofs.lemmas.{Bool.{le-leb, leb-true, lt-ltb, cases_lt, and_from
 use Rattle.lil_base.specs.declared.fault.TrapKind.TheVariants as trap
 use Rattle.lil_base.specs.{Requests.{request_number, request_found, takes_array}, declared.request.Request.{Request, TheVariants.{Write, WriteString, WriteLn, WriteCard, WriteInt, WriteOct, WriteHex}}}
 use Rattle.lil_asm.specs.{Requests.request_words, declared.instr.Instr.TheVariants.{Liw, Lag, Svc}}
-use Rattle.lil_resolved.specs.{Kinds.{Kind, OfWhole, OfTruth, OfCharacter, OfEnumeration, OfSet, OfPointer, OfRange, is_plain, takes_value, stores_value, Scope, Scalar, Character, within, scalar_word, Shape, Absent, Word, Row, words, is_there, part_at, offset}, Resolved.{Designator, Argument, ByValue, OfPlace, OfArray, OfText, kind_of, shape_of}, Sizes.argument_words, Sound.{request_parameters, parameter_of, is_text}}
+use Rattle.lil_resolved.specs.{Kinds.{Kind, OfWhole, OfTruth, OfCharacter, OfEnumeration, OfSet, OfPointer, OfRange, is_plain, takes_value, stores_value, Scope, Scalar, Character, within, scalar_word, Shape, Absent, Word, Row, words, is_there, part_at, offset}, Resolved.{Designator, Argument, ByValue, OfPlace, OfAll, OfArray, OfText, kind_of, shape_of}, Sizes.argument_words, Sound.{request_parameters, parameter_of, is_text}}
 use Rattle.lil_resolved.specs.Resolved as resolved
 use Rattle.lil_meaning.specs.{Items.{Place, part_of, got, Datum, Scalars, Places, Wholes, Opens, Texts, Requested, Pass, PassArray, Do, Passing, Item, Value, PlaceOf, Fill, Perform, Going, Source}, World.{World, Given, Single, Characters, characters_at, array_at, given_by, serve}, Steps.{trapped, with_items, character_of, characters_from, as_array, given_of, level_of}}
 use Rattle.lil_mcode.specs.Table.{State, going, array_lies, request_row}
 use Rattle.lil_table.specs.Rows.{IsAt, ArgumentsAt, HasText, text_words, arguments_words, access_of}
 use Rattle.lil_match.specs.{Goes.{Shared, Goes, Lands}, Running.{Running, Run, running}, Parts.{yes, no}, Homes.{Home, text_character, word_for, plain_word, takes_plain, address, shape_there, place_inside, part_there}, Waits.stutter}
-use Rattle.lil_match.specs.{Waits.{Setting, frame_of, laid_out, Quiet, ValueOf, AtPlace, Around, Reach, Rows, Designates, is_open, is_array, AreServed, TakesAll, DatumOn, DataOn, LeftPart, Waiting}, Orders.{instr_within, arguments_within}, Steps.{closed, advances, at_step, at_once, pushes, rows_ahead, lands_on, goes_none, goes_none_within, goes_one, operand_goes}}
+use Rattle.lil_match.specs.{Waits.{Setting, frame_of, laid_out, Quiet, ValueOf, AtPlace, Around, Reach, Rows, Designates, is_open, is_array, AreTaken, TakesAll, DatumOn, DataOn, LeftPart, Waiting}, Orders.{instr_within, arguments_within}, Steps.{closed, advances, at_step, at_once, pushes, rows_ahead, lands_on, goes_none, goes_none_within, goes_one, operand_goes}}
 use Rattle.lil_laws_place.specs.Codes.{leads, addressed, tested}
 use Rattle.lil_laws_stmt.specs.{Strings.{string_low, string_word}, Tasks.value_within}
 
@@ -19,7 +19,7 @@ use Rattle.lil_laws_stmt.specs.{Strings.{string_low, string_word}, Tasks.value_w
 -- one of those that are left is at hand
 forms_more : (ts : Scope) (r : Request) (done : List Bool) (x : Argument) (left : List Argument) → TakesAll ts r done (x ∷ left) → TakesAll ts r (done ++ is_open (parameter_of ts x) ∷ []) left
 forms_more ts r done x left t =
-    record { same = t.same ∙ sym (append_assoc done (is_open (parameter_of ts x) ∷ []) (map is_open (map (parameter_of ts) left))); served = t.served.1 }
+    record { same = t.same ∙ sym (append_assoc done (is_open (parameter_of ts x) ∷ []) (map is_open (map (parameter_of ts) left))); taken = t.taken.1; served = t.served.1 }
 
 forms_done : (ts : Scope) (r : Request) (done : List Datum) (d : Datum) (left : List Argument) → TakesAll ts r (map is_array done ++ is_array d ∷ []) left → TakesAll ts r (map is_array (done ++ d ∷ [])) left
 forms_done ts r done d left t = subst (λ (bs : List Bool). TakesAll ts r bs left) (sym (map-append is_array done (d ∷ []))) t
@@ -43,14 +43,14 @@ only true e = refl
 only false e = e
 
 -- each takes values that are no references, and open arrays
-all_served : (r : Request) → AreServed (request_parameters r)
-all_served Write = (refl, tt)
-all_served WriteString = (tt, tt)
-all_served WriteLn = tt
-all_served WriteCard = (refl, (refl, tt))
-all_served WriteInt = (refl, (refl, tt))
-all_served WriteOct = (refl, (refl, tt))
-all_served WriteHex = (refl, (refl, tt))
+all_taken : (r : Request) → AreTaken (request_parameters r)
+all_taken Write = (refl, tt)
+all_taken WriteString = (tt, tt)
+all_taken WriteLn = tt
+all_taken WriteCard = (refl, (refl, tt))
+all_taken WriteInt = (refl, (refl, tt))
+all_taken WriteOct = (refl, (refl, tt))
+all_taken WriteHex = (refl, (refl, tt))
 
 -- where no reference is wanted, what may be stored is what is taken
 taken_plain : (k j : Kind) → is_plain k ≡ true → stores_value k j ≡ true → takes_value k j ≡ true
@@ -225,7 +225,7 @@ module _ (ctx : Setting) where
             rest = record {
               middle = row.part.here.middle;
               given = subst (λ (n : ℕ). ArgumentsAt l piece n given m.place row.part.here.middle) (sym none) row.part.here.arguments;
-              forms = record { same = ap (map is_open) row.part.here.takes; served = subst AreServed row.part.here.takes (all_served r) };
+              forms = record { same = ap (map is_open) row.part.here.takes; taken = subst AreTaken row.part.here.takes (all_taken r); served = row.part.here.served };
               serve = record { words = row.part.here.words ∙ (let e : arguments_words given ≡ length m.stack + arguments_words given = omega (arith, none) in e); end = row.part.end; by = row.part.here.by; within = row.part.within };
             };
           };
@@ -247,7 +247,7 @@ module _ (ctx : Setting) where
         (value_within ctx (length m.stack) e kind m.place rest.given.middle value behind)
         (record {
           part = record {
-            takes = taken_plain kind (kind_of e) rest.forms.served.0 value.stores;
+            takes = taken_plain kind (kind_of e) rest.forms.taken.0 value.stores;
             on = row.part.on;
             tested = rest.given.middle;
             test = value.test;
@@ -256,6 +256,7 @@ module _ (ctx : Setting) where
           then = row.then;
         })
     passing_goes r done (OfPlace d) left row = absurd row.part.rest.forms.served.0
+    passing_goes r done (OfAll d) left row = absurd row.part.rest.forms.served.0
     passing_goes r done (OfArray d high) left row =
         let rest = row.part.rest in
         let y = rest.given.here in

@@ -24,7 +24,8 @@ fn argument_words(of: &RArgument) -> u32
     ensures { result ≡ min (spec.argument_words of.now) 4294967295 }
 {
     match of {
-        RArgument::Value(_, _) | RArgument::Place(_) | RArgument::Array(_, _) => 0,
+        RArgument::Value(_, _) | RArgument::Place(_) | RArgument::All(_) | RArgument::Array(_, _) =>
+            0,
         RArgument::Text(text) => string_words(text.get()),
     }
 }

@@ -1,8 +1,10 @@
 -- What the calls at hand need is at least what their frames take.
+use Rattle.lil_resolved.specs.Kinds.{all_words}
+use Rattle.lil_table.specs.Rows.{given_words}
 use Rattle.std.proofs.Common.{◌≡◌, ℕ, ◌+◌, ◌≤◌, ⊎_elim, List, [], ◌∷◌, length, Option, sym, ap, ◌∙◌, subst, arith}
 use Rattle.std.specs.Prelude.{slice_get}
 use Rattle.lil_resolved.specs.{Kinds.Shape, Resolved.{Argument, Resolved}}
-use Rattle.lil_meaning.specs.{Items.{loaded_at, Datum, Called, Pass, PassPlace, Turns, Holding, End, Item, Fill, Perform, Activation, Source}, Need.{frame_of, cost, unless_body, with_callers, chain}, Steps.{current, owner_of, procedure_of}}
+use Rattle.lil_meaning.specs.{Items.{loaded_at, Datum, Called, Pass, PassPlace, PassAll, Turns, Holding, End, Item, Fill, Perform, Activation, Source}, Need.{frame_of, cost, unless_body, with_callers, chain}, Steps.{current, owner_of, procedure_of}}
 use Rattle.lil_mcode.specs.Table.{Module, State}
 use Rattle.lil_match.specs.{Homes.{Owner, Home}, Waits.{Mode, Quiet, Around, Frame, Setting, with_frames, Pending, Behind, RowsOf, Rows}, Goes.{Stands, IsKnown, EachKnown, Shared}, Steps.closed}
 
@@ -41,14 +43,14 @@ each_costs library loaded table acts h (f ∷ fs) e = (known_costs library loade
 pub pending_cost : (ctx : Setting) (k : List Item) (q levels : ℕ) (done : List Datum) (next : List Shape) (left : List Argument) (p c : ℕ) (a : Around) → Pending ctx q levels done next left (RowsOf k) p c a
     → EachCosts ctx.library ctx.loaded ctx.activations (ctx.stack.frame ∷ ctx.stack.callers)
     → ((y : Setting) (p c : ℕ) (a : Around) → Rows y k Quiet p [] c a → EachCosts y.library y.loaded y.activations (y.stack.frame ∷ y.stack.callers) → cost_of (y.stack.frame ∷ y.stack.callers) ≤ chain y.library y.loaded y.activations k)
-    → cost_of (ctx.stack.frame ∷ ctx.stack.callers) + (length next + length left) ≤ (frame_of (loaded_at ctx.library ctx.loaded (owner_of (slice_get ctx.activations (current k)))) q + 17) + chain ctx.library ctx.loaded ctx.activations k
+    → cost_of (ctx.stack.frame ∷ ctx.stack.callers) + (all_words next + given_words ctx.stack.frame.layout.scope left) ≤ (frame_of (loaded_at ctx.library ctx.loaded (owner_of (slice_get ctx.activations (current k)))) q + 17) + chain ctx.library ctx.loaded ctx.activations k
 pending_cost ctx k q levels done next left p c a w e rest =
     let inner = subst (λ (y : Setting). EachCosts y.library y.loaded y.activations (y.stack.frame ∷ y.stack.callers)) w.is e in
     let below = rest w.before w.end c w.outer w.then (record { takes = inner.0.takes; rest = inner.0.rest; owner = inner.0.owner }, inner.1) in
     let chain_is : chain ctx.library ctx.loaded ctx.activations k ≡ chain w.before.library w.before.loaded w.before.activations k = ap (λ (y : Setting). chain y.library y.loaded y.activations k) w.is in
-    let cost_is : cost_of (ctx.stack.frame ∷ ctx.stack.callers) ≡ (4 + length done) + cost_of (w.before.stack.frame ∷ w.before.stack.callers) =
+    let cost_is : cost_of (ctx.stack.frame ∷ ctx.stack.callers) ≡ (4 + all_words w.shapes) + cost_of (w.before.stack.frame ∷ w.before.stack.callers) =
     ap (λ (y : Setting). cost_of (y.stack.frame ∷ y.stack.callers)) w.is
-    ∙ (let e : (w.before.stack.frame.layout.frame + (((4 + length done) + w.before.stack.frame.pushed) + 17)) + cost_of w.before.stack.callers ≡ (4 + length done) + ((w.before.stack.frame.layout.frame + (w.before.stack.frame.pushed + 17)) + cost_of w.before.stack.callers) = omega arith in e) in
+    ∙ (let e : (w.before.stack.frame.layout.frame + (((4 + all_words w.shapes) + w.before.stack.frame.pushed) + 17)) + cost_of w.before.stack.callers ≡ (4 + all_words w.shapes) + ((w.before.stack.frame.layout.frame + (w.before.stack.frame.pushed + 17)) + cost_of w.before.stack.callers) = omega arith in e) in
     let same : current k ≡ ctx.stack.frame.activation = closed w.before k Quiet w.end [] c w.outer w.then ∙ sym (ap (λ (y : Setting). y.stack.frame.activation) w.is) in
     let number : owner_of (slice_get ctx.activations (current k)) ≡ ctx.stack.frame.number = ap (λ (i : ℕ). owner_of (slice_get ctx.activations i)) same ∙ e.0.owner in
     let frame : frame_of (loaded_at ctx.library ctx.loaded (owner_of (slice_get ctx.activations (current k)))) q ≡ frame_of (loaded_at ctx.library ctx.loaded ctx.stack.frame.number) q = ap (λ (i : ℕ). frame_of (loaded_at ctx.library ctx.loaded i) q) number in
@@ -84,6 +86,9 @@ items_cost ctx (Fill (Pass (Called q levels) kind done left) ∷ k) t p stack c 
     let all = pending_cost ctx k q levels done _ left _ _ a r.there.pending e (λ y p c a. items_cost y k Quiet p [] c a) in
     omega (arith, all)
 items_cost ctx (Fill (PassPlace (Called q levels) done left) ∷ k) t p stack c a r e =
+    let all = pending_cost ctx k q levels done _ left _ _ a r.there.pending e (λ y p c a. items_cost y k Quiet p [] c a) in
+    omega (arith, all)
+items_cost ctx (Fill (PassAll (Called q levels) done left) ∷ k) t p stack c a r e =
     let all = pending_cost ctx k q levels done _ left _ _ a r.there.pending e (λ y p c a. items_cost y k Quiet p [] c a) in
     omega (arith, all)
 items_cost ctx (i ∷ k) t p stack c a r e =

@@ -1,14 +1,17 @@
 -- What is left stays where homes agree on what it speaks of: this carries rows and frames over every change of the machine's own words.
+use Rattle.lil_meaning.specs.Items.{Under, alone}
+use Rattle.lil_match.specs.Parts.{part_fits, word_long}
+use Rattle.lil_match.specs.Homes.{IsWord}
 use Rattle.std.proofs.Common.{◌≡◌, ℕ, zero, suc, length, ◌+◌, ◌<◌, ◌≤◌, inl, inr, true, eqb, List, [], ◌∷◌, ◌++◌, set, get_or, refl, sym, ap, ◌∙◌, subst, ⊎_elim, arith}
 use Rattle.std.proofs.lemmas.{Bool.{ne_eqb}, Option.{none-some, same_Some}}
 use Rattle.std.specs.Prelude.{Option, Some, None, slice_get}
 use Rattle.lil_resolved.specs.{Kinds.{Workspaces, Kind, OfCharacter, OfSet, OfPointer, Scalar, within, Shape, Absent, Word, Row, Address, Opened, words as size, is_there, part_at, offset, all_words, offsets_from}, Resolved.{Resolved, Argument, kind_of, shape_of}, Plain.parameter_variable}
-use Rattle.lil_meaning.specs.Items.{Root, Global, Local, Object, Place, Datum, Scalars, Places, Wholes, Opens, Texts, Requested, Called, IndexAt, StoreAt, CopyFrom, ChangeAt, RightOf, MemberOf, MembersFrom, MembersTo, MemberAt, AllocateAt, Pass, PassPlace, PassArray, LimitOf, Passing, Looping, Turns, Holding, End, Item, Value, Fill, Perform, Activation, Source}
+use Rattle.lil_meaning.specs.Items.{Root, Global, Local, Object, Place, Datum, Scalars, Places, Wholes, Opens, Texts, Requested, Called, IndexAt, StoreAt, CopyFrom, ChangeAt, RightOf, MemberOf, MembersFrom, MembersTo, MemberAt, AllocateAt, Pass, PassPlace, PassAll, PassArray, LimitOf, Passing, Looping, Turns, Holding, End, Item, Value, Fill, Perform, Activation, Source}
 use Rattle.lil_meaning.specs.Steps.{outer_of, surrounding}
 use Rattle.lil_mcode.specs.Table.{Module, StackRegisters, State, stack_of}
 use Rattle.lil_table.specs.Rows.{Layout, holding, Access, OnTop, loop_place}
 use Rattle.lil_match.specs.{Parts.no, Homes.{word_for, word_kept, refers_kept, is_word_kept, Refers, plain_refers, takes_plain, Extends, extends_self, lives, address, shape_there, Owner, Own, Fixed, own_fixed, Home, mem_shadowed, shadowed, replaced}}
-use Rattle.lil_match.specs.{Waits.{Mode, Quiet, ValueOf, AtPlace, Reach, AfterJumps, Onward, Part, Around, Frame, own_words, locals_in, top_of, outside, frames_of, Setting, at_home, renewed, inside_with, pushing, with_frames, DatumOn, DataOn, IsLink, GivenWord, AllGiven, Pending, sees, TurnsTask, Reaches, HasPlace, HasSet, needs, Behind, RowsOf, Rows}, Known.{known_kept, each_known, each_comes, sees_more, each_local}}
+use Rattle.lil_match.specs.{Waits.{Mode, Quiet, ValueOf, AtPlace, Reach, AfterJumps, Onward, Part, Around, Frame, own_words, locals_in, top_of, outside, frames_of, Setting, at_home, renewed, inside_with, pushing, with_frames, DatumOn, DataOn, IsLink, GivenAll, GivenWords, AllGiven, Pending, sees, TurnsTask, Reaches, HasPlace, HasSet, needs, Behind, RowsOf, Rows}, Known.{known_kept, each_known, each_comes, sees_more, each_local}}
 use Rattle.lil_match.specs.Goes.{OwnWords, Stands, Grows, Linked, Chained, HasHanded, EachHanded, EachComes, Standing, Shared, Touches}
 
 -- the words that pending calls have put above the running frame stay
@@ -106,22 +109,33 @@ module _ (ctx : Setting) (acts : List Activation) (x : Home) (n low top : ℕ) (
   data_kept (d ∷ ds) stack below r = (r.0, datum_kept d r.0 below r.1, data_kept ds stack r.0 r.2)
 
   -- what was given for a parameter
-  pub given_word : (t : Shape) (d : Datum) (w : ℕ) → GivenWord ctx t d w → GivenWord (renewed ctx acts x n) t d w
-  given_word (Word k) (Scalars v) w r = is_word_kept h x (λ o e. keeps.base (Object o) refl e) (λ o e. keeps.shape (Object o) refl e) keeps.targets keeps.workspaces k v w r
-  given_word (Address t) (Places place) w r =
-      let alive = place_lives h place t r.living r.there in
-      let same = keeps.shape place.root r.seen alive in
-      let at : address h place ≡ address x place = omega (arith, keeps.base place.root r.seen alive, ap (λ (t : Shape). offset t place.path) same) in
-      record { seen = r.seen; living = ap (λ (t : Shape). part_at t place.path) same ∙ r.living; there = r.there; word = r.word ∙ at }
-  given_word t d w r = absurd r
+  under_given : (t : Shape) (u : Under) (at : ℕ) → ((i : ℕ) → i < size t → x.shadow (at + i) ≡ h.shadow (at + i)) → GivenAll ctx t u at → GivenAll (renewed ctx acts x n) t u at
+  under_given t u at same r = record {
+    there = r.there;
+    cells = λ q k is.
+        let small : offset t q < size t = omega (arith, part_fits t q (ap is_there is), word_long (part_at t q) k is) in
+        subst (IsWord x k (u q)) (sym (same (offset t q) small))
+        (is_word_kept h x (λ o e. keeps.base (Object o) refl e) (λ o e. keeps.shape (Object o) refl e) keeps.targets keeps.workspaces k (u q) (h.shadow (at + offset t q)) (r.cells q k is));
+  }
 
-  pub all_given : (ts : List Shape) (ds : List Datum) (at : ℕ) → ((i : ℕ) → i < length ds → x.shadow (at + i) ≡ h.shadow (at + i)) → AllGiven ctx ts ds at → AllGiven (renewed ctx acts x n) ts ds at
+  pub words_given : (t : Shape) (d : Datum) (at : ℕ) → ((i : ℕ) → i < size t → x.shadow (at + i) ≡ h.shadow (at + i)) → GivenWords ctx t d at → GivenWords (renewed ctx acts x n) t d at
+  words_given t (Scalars v) at same r = under_given t (alone v) at same r
+  words_given t (Wholes u) at same r = under_given t u at same r
+  words_given t (Places place) at same r =
+      let alive = place_lives h place r.to r.living r.there in
+      let kept = keeps.shape place.root r.seen alive in
+      let moved : address h place ≡ address x place = omega (arith, keeps.base place.root r.seen alive, ap (λ (t : Shape). offset t place.path) kept) in
+      let first : x.shadow at ≡ h.shadow at = ap x.shadow (let e : at ≡ at + 0 = omega arith in e) ∙ same 0 (omega (arith, ap size r.is)) ∙ ap h.shadow (let e : at + 0 ≡ at = omega arith in e) in
+      record { to = r.to; is = r.is; seen = r.seen; living = ap (λ (t : Shape). part_at t place.path) kept ∙ r.living; there = r.there; word = first ∙ r.word ∙ moved }
+  words_given t (Opens place high) at same r = absurd r
+  words_given t (Texts cs) at same r = absurd r
+
+  pub all_given : (ts : List Shape) (ds : List Datum) (at : ℕ) → ((i : ℕ) → i < all_words ts → x.shadow (at + i) ≡ h.shadow (at + i)) → AllGiven ctx ts ds at → AllGiven (renewed ctx acts x n) ts ds at
   all_given [] [] at same r = r
-  all_given (t ∷ ts) (d ∷ ds) at same r =
-      let first : x.shadow at ≡ h.shadow at = ap x.shadow (let e : at ≡ at + 0 = omega arith in e) ∙ same 0 (omega arith) ∙ ap h.shadow (let e : at + 0 ≡ at = omega arith in e) in (
-        subst (GivenWord (renewed ctx acts x n) t d) (sym first) (given_word t d (h.shadow at) r.0),
-        all_given ts ds (suc at) (λ i less. let e : suc at + i ≡ at + suc i = omega arith in ap x.shadow e ∙ same (suc i) (omega (arith, less)) ∙ ap h.shadow (sym e)) r.1,
-      )
+  all_given (t ∷ ts) (d ∷ ds) at same r = (
+    words_given t d at (λ i less. same i (omega (arith, less))) r.0,
+    all_given ts ds (at + size t) (λ i less. let e : at + size t + i ≡ at + (size t + i) = omega arith in ap x.shadow e ∙ same (size t + i) (omega (arith, less)) ∙ ap h.shadow (sym e)) r.1,
+  )
   all_given ts ds at same r = absurd r
 
   met : (t : Mode) (i : Item) (p : ℕ) (stack : List ℕ) (a : Around) → (r : (needs ctx t i p stack a).Here) → IsMet (needs ctx t i p stack a) (needs (renewed ctx acts x n) t i p stack a) r
@@ -272,7 +286,7 @@ pub pending_kept : (k : List Item) (acts : List Activation) (rows : (ctx : Setti
 pending_kept k acts rows ctx x n low above q levels done next left p c a keeps w =
     let top : ℕ = top_of w.before.stack.frame in
     let under : ℕ = w.before.stack.frame.pushed in
-    let same : (i : ℕ) → i < 4 + length done → x.shadow (top + i) ≡ ctx.home.shadow (top + i) =
+    let same : (i : ℕ) → i < 4 + all_words w.shapes → x.shadow (top + i) ≡ ctx.home.shadow (top + i) =
     λ i less.
     let e : top + i ≡ ctx.stack.frame.at + (ctx.stack.frame.layout.frame + (under + i)) =
     omega (arith, ap (λ (c : Setting). c.stack.frame.at) w.is, ap (λ (c : Setting). c.stack.frame.layout.frame) w.is) in
@@ -280,10 +294,10 @@ pending_kept k acts rows ctx x n low above q levels done next left p c a keeps w
     record {
       before = renewed w.before acts x n;
       is = ap (λ (c : Setting). renewed c acts x n) w.is;
+      shapes = w.shapes;
       outer = w.outer;
       around = w.around;
       may = w.may;
-      shapes = w.shapes;
       takes = w.takes;
       room = w.room;
       link = subst (IsLink ctx.stack.frame.display levels) (let e : top ≡ top + 0 = omega arith in ap ctx.home.shadow e ∙ sym (same 0 (omega arith)) ∙ ap x.shadow (sym e)) w.link;
@@ -296,7 +310,7 @@ pending_kept k acts rows ctx x n low above q levels done next left p c a keeps w
       within = w.within;
       then = rows w.before x n low (subst (λ (c : Setting). EachAbove low (frames_of c.stack)) w.is above) Quiet w.end [] c w.outer
           (subst (λ (t : ℕ). Keeps w.before.home x (frames_of w.before.stack) low (w.before.stack.frame.at + loop_place t)) (ap (λ (o : Around). o.taken) w.around)
-          (keeps_before ctx w.before x (4 + length done) low (loop_place a.taken) w.is keeps))
+          (keeps_before ctx w.before x (4 + all_words w.shapes) low (loop_place a.taken) w.is keeps))
           w.then;
     }
 
@@ -437,6 +451,18 @@ rows_renewed (Fill (PassPlace (Called q levels) done left) ∷ k) ctx acts x n l
       push = w.push;
       pending = pending_kept k acts (λ y z i l. rows_renewed k y acts z i l) ctx x n low above q levels done (Address (shape_of ctx.stack.frame.layout.scope w.of) ∷ []) left w.start r.later a keeps w.pending;
     })
+rows_renewed (Fill (PassAll (Called q levels) done left) ∷ k) ctx acts x n low above t p stack c a keeps r =
+    let w = r.there in
+    jumps_same ctx.stack.frame.piece _ _ t p stack c a r (record {
+      of = w.of;
+      mode = w.mode;
+      empty = w.empty;
+      tested = w.tested;
+      address = w.address;
+      start = w.start;
+      push = w.push;
+      pending = pending_kept k acts (λ y z i l. rows_renewed k y acts z i l) ctx x n low above q levels done (shape_of ctx.stack.frame.layout.scope w.of ∷ []) left w.start r.later a keeps w.pending;
+    })
 rows_renewed (i ∷ k) ctx acts x n low above t p stack c a keeps r =
     let m = met ctx acts x n low (ctx.stack.frame.at + loop_place a.taken) keeps t i r.start stack a r.there.part in
     jumps_same ctx.stack.frame.piece _ _ t p stack c a r (record {
@@ -505,6 +531,7 @@ loops_behind (Perform (Holding place) ∷ k) ctx t p stack c a r =
 loops_behind (Perform (End n) ∷ k) ctx t p stack c a r = omega (arith, ap (λ (o : Around). o.taken) r.there.alone)
 loops_behind (Fill (Pass (Called q levels) kind done left) ∷ k) ctx t p stack c a r = pending_behind ctx q levels done _ left k _ _ a r.there.pending (λ y p c a. loops_behind k y Quiet p [] c a)
 loops_behind (Fill (PassPlace (Called q levels) done left) ∷ k) ctx t p stack c a r = pending_behind ctx q levels done _ left k _ _ a r.there.pending (λ y p c a. loops_behind k y Quiet p [] c a)
+loops_behind (Fill (PassAll (Called q levels) done left) ∷ k) ctx t p stack c a r = pending_behind ctx q levels done _ left k _ _ a r.there.pending (λ y p c a. loops_behind k y Quiet p [] c a)
 loops_behind (i ∷ k) ctx t p stack c a r = loops_behind k ctx _ _ _ _ _ r.there.then
 
 -- and in the frame
@@ -528,6 +555,7 @@ loops_fit (Perform (Holding place) ∷ k) ctx t p stack c a mark r =
 loops_fit (Perform (End n) ∷ k) ctx t p stack c a mark r = omega (arith, ap (λ (o : Around). o.taken) r.there.alone, mark)
 loops_fit (Fill (Pass (Called q levels) kind done left) ∷ k) ctx t p stack c a mark r = pending_fits ctx q levels done _ left k _ _ a mark r.there.pending (λ y p c a. loops_fit k y Quiet p [] c a)
 loops_fit (Fill (PassPlace (Called q levels) done left) ∷ k) ctx t p stack c a mark r = pending_fits ctx q levels done _ left k _ _ a mark r.there.pending (λ y p c a. loops_fit k y Quiet p [] c a)
+loops_fit (Fill (PassAll (Called q levels) done left) ∷ k) ctx t p stack c a mark r = pending_fits ctx q levels done _ left k _ _ a mark r.there.pending (λ y p c a. loops_fit k y Quiet p [] c a)
 loops_fit (i ∷ k) ctx t p stack c a mark r = loops_fit k ctx _ _ _ _ _ mark r.there.then
 
 -- activations stay linked as long as the first words of their frames stay

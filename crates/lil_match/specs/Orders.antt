@@ -1,6 +1,6 @@
 -- Where parts stand: behind their start, and within the code.
 use Rattle.std.proofs.Common.{ℕ, ◌+◌, ◌<◌, ◌≤◌, List, [], ◌∷◌, length, Option, arith}
-use Rattle.lil_resolved.specs.Resolved.{Expression, Constant, Taken, One, Two, Short, Apply, With, WithSpan, Argument, ByValue, OfPlace, OfArray, OfText, Statement, Statements, kind_of}
+use Rattle.lil_resolved.specs.Resolved.{Expression, Constant, Taken, One, Two, Short, Apply, With, WithSpan, Argument, ByValue, OfPlace, OfAll, OfArray, OfText, Statement, Statements, kind_of}
 use Rattle.lil_resolved.specs.Sizes.{argument_words}
 use Rattle.lil_asm.specs.{declared.instr.Instr.{Instr, TheVariants.{Liw, Lag, Dup, Spn}}, Decoding.decoded_stands}
 use Rattle.lil_table.specs.{Lengths.{instrs_long, place_long, statement_long, body_long}, Rows.{Layout, IsAt, InstrsAt, one_code, two_code, test_code, function_code, access_of, address_code, ExpressionAt, ArgumentAt, ArgumentsAt, StatementAt, BodyAt, short_code}}
@@ -80,6 +80,7 @@ instrs_within code (i ∷ is) p q some h = instr_within code p i h.0 h.1
 pub argument_within : (l : Layout) (code : List ℕ) (n : ℕ) (a : Argument) (p q : ℕ) → ArgumentAt l code n a p q → q < length code → p < length code
 argument_within l code n (ByValue k e) p q h inside = expression_within l code e p h.middle h.value.value
 argument_within l code n (OfPlace d) p q h inside = omega (arith, place_long l code d p h.found h.here, instrs_long code (address_code (access_of l d)) h.found q h.address, inside)
+argument_within l code n (OfAll d) p q h inside = omega (arith, place_long l code d p h.found h.here, instrs_long code (address_code (access_of l d)) h.found q h.address, inside)
 argument_within l code n (OfArray d high) p q h inside =
     let s = instr_order code h.start (Liw high) q h.by in
     omega (arith, place_long l code d p h.found h.here, instrs_long code (address_code (access_of l d)) h.found h.start h.address, s.0, s.1)

@@ -1,10 +1,11 @@
 -- One step of the source from steps of the machine, and the activation at hand from any row.
+use Rattle.lil_resolved.specs.Kinds.{all_words}
 use Rattle.std.proofs.Common.{◌≡◌, ℕ, zero, suc, ◌+◌, ◌<◌, Option, Some, None, Bool, List, [], ◌∷◌, ◌++◌, length, true, ⊎_elim, refl, sym, ap, ◌∙◌, subst, arith, ◌≤◌, inl, inr}
 use Rattle.std.specs.Prelude.{slice_get}
 use Rattle.std.proofs.lemmas.{Option.same_Some, Bool.lt-ltb}
 use Rattle.lil_base.specs.declared.fault.{TrapKind.TrapKind, LimitKind.LimitKind}
 use Rattle.lil_resolved.specs.{Kinds.{Shape, is_there}, Resolved.{Designator, Argument, Expression, kind_of}, Sizes.{depth, place_depth}}
-use Rattle.lil_meaning.specs.{Items.{Global, Place, Datum, loaded_at, Called, Pass, PassPlace, Passing, Turns, Holding, End, Item, Perform, Activation, Going, Source, Cells, Root, Local, Object, Hole, Evaluate, PlaceOf, Fill}, World.{all_closed, World}, Steps.{current, held_in, owner_of, procedure_of, procedure_name, trap_at, trapped, next}}
+use Rattle.lil_meaning.specs.{Items.{Global, Place, Datum, loaded_at, Called, Pass, PassPlace, PassAll, Passing, Turns, Holding, End, Item, Perform, Activation, Going, Source, Cells, Root, Local, Object, Hole, Evaluate, PlaceOf, Fill}, World.{all_closed, World}, Steps.{current, held_in, owner_of, procedure_of, procedure_name, trap_at, trapped, next}}
 use Rattle.lil_mcode.specs.{declared.machine.Event.{Event, TheVariants.{Trap, Went, Limit}}, Table.{Kept, State, Module, module_at, mstep, act, fetched, performed, going, push_row}}
 use Rattle.lil_table.specs.Rows.{holding, loop_place, IsAt, PlaceAt, ExpressionAt}
 use Rattle.lil_match.specs.{Goes.{IsNamed, Shared, IsTrapped, IsProgram, GoesOn, Lands, IsStill, beyond, Touches, Succeeds, Short, IsFull, Grows, Goes}, Running.{running, react, Run, mrun, advanced}, Homes.{address, shape_there, Home, extends_self, lives, Mem}, Kept.{sees_laid, sees_pushed, loops_behind}}
@@ -24,6 +25,9 @@ closed ctx (Fill (Pass (Called q levels) kind done left) ∷ k) t p stack c a r 
     let w = r.there.pending in
     closed w.before k Quiet w.end [] r.later w.outer w.then ∙ sym (ap (λ (c : Setting). c.stack.frame.activation) w.is)
 closed ctx (Fill (PassPlace (Called q levels) done left) ∷ k) t p stack c a r =
+    let w = r.there.pending in
+    closed w.before k Quiet w.end [] r.later w.outer w.then ∙ sym (ap (λ (c : Setting). c.stack.frame.activation) w.is)
+closed ctx (Fill (PassAll (Called q levels) done left) ∷ k) t p stack c a r =
     let w = r.there.pending in
     closed w.before k Quiet w.end [] r.later w.outer w.then ∙ sym (ap (λ (c : Setting). c.stack.frame.activation) w.is)
 closed ctx (i ∷ k) t p stack c a r = closed ctx k _ _ _ _ _ r.there.then
@@ -78,7 +82,7 @@ held_pending : (ctx : Setting) (k : List Item) (q levels : ℕ) (done : List Dat
     → HeldHere ctx (held_in k w) shape word
 held_pending ctx k q levels done next left p c a r w word shape at typed rest =
     let h = rest r.before r.end c r.outer r.then (sym (ap (λ (y : Setting). slice_get y.stack.frame.layout.held w) r.is) ∙ at) (sym (ap (λ (y : Setting). slice_get y.stack.frame.layout.scope.held w) r.is) ∙ typed) in
-    record { place = h.place; found = h.found; held = held_pushed ctx r.before h.place shape (4 + length done) word r.is h.held }
+    record { place = h.place; found = h.found; held = held_pushed ctx r.before h.place shape (4 + all_words r.shapes) word r.is h.held }
 
 no_word : (word : ℕ) → None ≡ Some word → ⊥
 no_word word e = cc
@@ -128,6 +132,8 @@ held_here ctx (Perform (End n) ∷ k) t p stack c a r w word shape at typed = ab
 held_here ctx (Fill (Pass (Called q levels) kind done left) ∷ k) t p stack c a r w word shape at typed =
     held_pending ctx k q levels done _ left _ _ a r.there.pending w word shape at typed (λ y p c a rows at typed. held_here y k Quiet p [] c a rows w word shape at typed)
 held_here ctx (Fill (PassPlace (Called q levels) done left) ∷ k) t p stack c a r w word shape at typed =
+    held_pending ctx k q levels done _ left _ _ a r.there.pending w word shape at typed (λ y p c a rows at typed. held_here y k Quiet p [] c a rows w word shape at typed)
+held_here ctx (Fill (PassAll (Called q levels) done left) ∷ k) t p stack c a r w word shape at typed =
     held_pending ctx k q levels done _ left _ _ a r.there.pending w word shape at typed (λ y p c a rows at typed. held_here y k Quiet p [] c a rows w word shape at typed)
 held_here ctx (i ∷ k) t p stack c a r w word shape at typed = held_here ctx k _ _ _ _ _ r.there.then w word shape at typed
 

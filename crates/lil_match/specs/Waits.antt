@@ -4,15 +4,15 @@ use Rattle.std.proofs.Common.{◌≡◌, ℕ, zero, suc, ◌+◌, ◌-◌, ◌%�
 use Rattle.std.specs.Prelude.{ℤ, ◌+ℤ◌, Option, ◌==◌, slice_get}
 use Rattle.std.specs.List.{list_any}
 use Rattle.lil_base.specs.{Words.{between, word_of}, declared.operator.{TwoOp.TwoOp}, Requests.request_number}
-use Rattle.lil_resolved.specs.Kinds.{Workspaces, Kind, OfTruth, OfCharacter, OfSet, OfPointer, base_of, is_plain, takes_value, stores_value, least, greatest, numbers, Scalar, within, scalar_word, Shape, Word, Row, Address, Opened, is_there, part_at, element_of, all_words, locals_at, Scope, MayCall, parameters_of, parameters_at, procedure_by}
-use Rattle.lil_resolved.specs.{Resolved.{Named, Designator, Variable, Handed, Held, Field, Element, Follow, Expression, Constant, Taken, One, Two, Short, Apply, With, WithSpan, Argument, ByValue, OfPlace, OfArray, OfText, Statement, Assign, Copy, Text, Change, Member, New, Allocate, Request, Inside, If, Case, While, Repeat, Loop, Exit, Halt, Return, Call, For, Statements, Empty, Then, Resolved, kind_of, is_relation, result_kind, function_kind, shape_of}, Sizes.{place_depth, depth}}
-use Rattle.lil_resolved.specs.Sound.{request_parameters, parameter_of}
-use Rattle.lil_meaning.specs.Items.{Root, Local, Place, Datum, Scalars, Places, Wholes, Opens, Texts, Hole, Get, IndexBy, IndexAt, Pointed, SetTo, StoreAt, CopyTo, CopyFrom, TextTo, NewAt, AllocateBy, AllocateAt, ChangeBy, ChangeAt, OneOf, LeftOf, RightOf, ShortOf, ApplyTo, WithMember, MemberOf, WithMembers, MembersFrom, MembersTo, MemberBy, MemberAt, Requested, Called, Pass, PassPlace, PassArray, Choose, Turn, Again, Pick, Hold, StartOf, LimitOf, Task, Do, Passing, Until, Looping, Turns, Holding, End, Item, Value, Evaluate, PlaceOf, Fill, Perform, Activation, Parked, loaded_at, Part as PartOf}
+use Rattle.lil_resolved.specs.Kinds.{Workspaces, Kind, OfTruth, OfCharacter, OfSet, OfPointer, base_of, is_plain, takes_value, stores_value, least, greatest, numbers, Scalar, within, scalar_word, Shape, Word, Row, Address, Opened, words, is_there, part_at, offset, element_of, all_words, locals_at, Scope, MayCall, parameters_of, parameters_at, procedure_by}
+use Rattle.lil_resolved.specs.{Resolved.{Named, Designator, Variable, Handed, Held, Field, Element, Follow, Expression, Constant, Taken, One, Two, Short, Apply, With, WithSpan, Argument, ByValue, OfPlace, OfAll, OfArray, OfText, Statement, Assign, Copy, Text, Change, Member, New, Allocate, Request, Inside, If, Case, While, Repeat, Loop, Exit, Halt, Return, Call, For, Statements, Empty, Then, Resolved, kind_of, is_relation, result_kind, function_kind, shape_of}, Sizes.{place_depth, depth}}
+use Rattle.lil_resolved.specs.Sound.{request_parameters, parameter_of, AreServed}
+use Rattle.lil_meaning.specs.Items.{Root, Local, Place, Under, alone, Datum, Scalars, Places, Wholes, Opens, Texts, Hole, Get, IndexBy, IndexAt, Pointed, SetTo, StoreAt, CopyTo, CopyFrom, TextTo, NewAt, AllocateBy, AllocateAt, ChangeBy, ChangeAt, OneOf, LeftOf, RightOf, ShortOf, ApplyTo, WithMember, MemberOf, WithMembers, MembersFrom, MembersTo, MemberBy, MemberAt, Requested, Called, Pass, PassPlace, PassAll, PassArray, Choose, Turn, Again, Pick, Hold, StartOf, LimitOf, Task, Do, Passing, Until, Looping, Turns, Holding, End, Item, Value, Evaluate, PlaceOf, Fill, Perform, Activation, Parked, loaded_at, Part as PartOf}
 use Rattle.lil_meaning.specs.{Steps.{turns}, Need.{frame_of as words_of}}
-use Rattle.lil_asm.specs.{declared.instr.Instr.TheVariants.{Liw, Psh, Cll, Ent, Rtn, Jmp, Svc}, Requests.request_words}
+use Rattle.lil_asm.specs.{declared.instr.Instr.TheVariants.{Liw, Psh, Psm, Cll, Ent, Rtn, Jmp, Svc}, Requests.request_words}
 use Rattle.lil_mcode.specs.Table.{Module, Kept, body_entry}
 use Rattle.lil_base.specs.declared.request.Request as request
-use Rattle.lil_table.specs.Rows.{Layout, holding, framed, exactly, HasText, text_words, arguments_words, IsAt, InstrsAt, test_code, Access, InData, InFrame, OnTop, access_of, address_code, readied, PlaceAt, ExpressionAt, ArgumentsAt, GivenAt, StatementAt, BodyAt, TurnsRow, RoundRow, loop_place, Behind as Past}
+use Rattle.lil_table.specs.Rows.{Layout, holding, framed, exactly, HasText, text_words, arguments_words, IsAt, InstrsAt, test_code, Access, InData, InFrame, OnTop, access_of, address_code, readied, PlaceAt, ExpressionAt, ArgumentsAt, GivenAt, given_words, StatementAt, BodyAt, TurnsRow, RoundRow, loop_place, Behind as Past}
 use Rattle.lil_match.specs.Homes.{word_for, Refers, IsWord, Home, address, shape_there}
 
 -- whether a parameter and a datum are open arrays
@@ -26,19 +26,20 @@ is_array (Texts cs) = true
 is_array _ = false
 
 -- what a request may take: a value that is no reference, or an open array
-abbrev pub IsServed : Shape → Type 0
-IsServed (Word k) = is_plain k ≡ true
-IsServed (Opened t) = Unit {0}
-IsServed _ = ⊥
+abbrev pub IsTaken : Shape → Type 0
+IsTaken (Word k) = is_plain k ≡ true
+IsTaken (Opened t) = Unit {0}
+IsTaken _ = ⊥
 
-abbrev pub AreServed : List Shape → Type 0
-AreServed [] = Unit {0}
-AreServed (t ∷ ts) = IsServed t × AreServed ts
+abbrev pub AreTaken : List Shape → Type 0
+AreTaken [] = Unit {0}
+AreTaken (t ∷ ts) = IsTaken t × AreTaken ts
 
 -- the arguments of a request, those that are done, by whether they are arrays, and those that are left, are arrays where its parameters are
 pub record TakesAll (ts : Scope) (r : request.Request) (done : List Bool) (left : List Argument) : Type 0 where
   pub same : map is_open (request_parameters r) ≡ done ++ map is_open (map (parameter_of ts) left)
-  pub served : AreServed (map (parameter_of ts) left)
+  pub taken : AreTaken (map (parameter_of ts) left)
+  pub served : AreServed left
 
 -- What comes from the items before: nothing, a value of a kind, or the place of a designator, as the code has it.
 pub data Mode : Type 0 where
@@ -649,41 +650,49 @@ module _ (ctx : Setting) where
     pub then : rest before Quiet p [] c outer
 
   -- ---- calls whose arguments are at hand
-  -- what was given for a parameter, as a word of the frame to come
-  pub record GivenPlace (t : Shape) (place : Place) (w : ℕ) : Type 0 where
-    pub seen : sees (frames_of ctx.stack) place.root ≡ true
-    pub living : shape_there h place ≡ t
+  -- What was given for a parameter, as words of the frame to come: all scalars of a shape with cells, or the address of a place.
+  pub record GivenAll (t : Shape) (u : Under) (at : ℕ) : Type 0 where
     pub there : is_there t ≡ true
-    pub word : w ≡ address h place
+    pub cells : (q : List ℕ) (k : Kind) → part_at t q ≡ Word k → IsWord h k (u q) (h.shadow (at + offset t q))
 
-  abbrev pub GivenWord : Shape → Datum → ℕ → Type 0
-  GivenWord (Word k) (Scalars v) w = IsWord h k v w
-  GivenWord (Address t) (Places place) w = GivenPlace t place w
-  GivenWord t d w = ⊥
+  pub record GivenPlace (t : Shape) (place : Place) (at : ℕ) : Type 0 where
+    pub to : Shape
+    pub is : t ≡ Address to
+    pub seen : sees (frames_of ctx.stack) place.root ≡ true
+    pub living : shape_there h place ≡ to
+    pub there : is_there to ≡ true
+    pub word : h.shadow at ≡ address h place
+
+  abbrev pub GivenWords : Shape → Datum → ℕ → Type 0
+  GivenWords t (Scalars v) at = GivenAll t (alone v) at
+  GivenWords t (Wholes u) at = GivenAll t u at
+  GivenWords t (Places place) at = GivenPlace t place at
+  GivenWords t (Opens place high) at = ⊥
+  GivenWords t (Texts cs) at = ⊥
 
   -- the same of several, from a word of the store on
   abbrev pub AllGiven : List Shape → List Datum → ℕ → Type 0
   AllGiven [] [] at = Unit {0}
-  AllGiven (t ∷ ts) (d ∷ ds) at = GivenWord t d (h.shadow at) × AllGiven ts ds (suc at)
+  AllGiven (t ∷ ts) (d ∷ ds) at = GivenWords t d at × AllGiven ts ds (at + words t)
   AllGiven ts ds at = ⊥
 
   -- Procedure x, declared n levels out, is called: above the frame stand its mark and what is done of its arguments. Those that are left stand
   -- behind what is at hand, in no LOOP, and then comes the call.
   pub record Pending (x n : ℕ) (done : List Datum) (next : List Shape) (left : List Argument) (rest : Setting → Reach) (p : ℕ) (c : ℕ) (a : Around) : Type 0 where
     pub before : Setting
-    pub is : ctx ≡ pushing before (4 + length done)
+    pub shapes : List Shape
+    pub is : ctx ≡ pushing before (4 + all_words shapes)
     pub outer : Around
     pub around : a ≡ record { exit = None; taken = outer.taken }
     pub may : MayCall l.scope x n
-    pub shapes : List Shape
     pub takes : parameters_of (procedure_by l.scope.procedures x) ≡ shapes ++ (next ++ map (parameter_of l.scope) left)
-    pub room : 4 + (length done + (length next + length left)) ≤ words_of (loaded_at ctx.library ctx.loaded active.number) x + 17
+    pub room : 4 + (all_words shapes + (all_words next + given_words l.scope left)) ≤ words_of (loaded_at ctx.library ctx.loaded active.number) x + 17
     pub link : IsLink active.display n (h.shadow (top_of before.stack.frame))
     pub given : AllGiven shapes done (top_of before.stack.frame + 4)
     pub middle : ℕ
     pub arguments : GivenAt l piece left p middle
     pub end : ℕ
-    pub call : IsAt piece middle (Cll x (framed (length done + (length next + length left)))) end
+    pub call : IsAt piece middle (Cll x (framed (all_words shapes + (all_words next + given_words l.scope left)))) end
     pub within : end < length piece
     pub then : rest before Quiet end [] c outer
 
@@ -716,6 +725,17 @@ module _ (ctx : Setting) where
     pub push : IsAt piece tested Psh start
     pub pending : Pending x n done (Address (shape_of l.scope of) ∷ []) left rest start c a
 
+  -- the place of the next argument is to come, and all that lies there goes to the frame to come
+  pub record AllWaits (x n : ℕ) (done : List Datum) (left : List Argument) (rest : Setting → Reach) (t : Mode) (p : ℕ) (stack : List ℕ) (c : ℕ) (a : Around) : Type 0 where
+    pub of : Designator
+    pub mode : t ≡ AtPlace of
+    pub empty : stack ≡ []
+    pub tested : ℕ
+    pub address : InstrsAt piece (address_code (access_of l of)) p tested
+    pub start : ℕ
+    pub push : IsAt piece tested (Psm (words (shape_of l.scope of))) start
+    pub pending : Pending x n done (shape_of l.scope of ∷ []) left rest start c a
+
   -- the end of a procedure or a body
   pub record EndWaits (n : ℕ) (k : List Item) (rest : Setting → Reach) (t : Mode) (p : ℕ) (stack : List ℕ) (c : ℕ) (a : Around) : Type 0 where
     pub quiet : t ≡ Quiet
@@ -736,6 +756,7 @@ module _ (ctx : Setting) where
   ItemWaits (Perform (End n)) k rest = EndWaits n k rest
   ItemWaits (Fill (Pass (Called x n) kind done left)) k rest = ValueWaits x n kind done left rest
   ItemWaits (Fill (PassPlace (Called x n) done left)) k rest = PlaceWaits x n done left rest
+  ItemWaits (Fill (PassAll (Called x n) done left)) k rest = AllWaits x n done left rest
   ItemWaits i k rest = Waiting i (rest ctx)
 
 -- Items that are left; the last is an end. Jumps may lead to the code of each.
@@ -775,6 +796,7 @@ abbrev mutual
 abbrev pub argument_stutter : Argument → ℕ
 argument_stutter (ByValue k e) = value_stutter e
 argument_stutter (OfPlace d) = place_stutter d
+argument_stutter (OfAll d) = place_stutter d
 argument_stutter (OfArray d high) = place_stutter d
 argument_stutter (OfText cs) = 0
 
@@ -823,6 +845,7 @@ hole_stutter (NewAt n) = 0
 hole_stutter (AllocateBy back e) = value_stutter e
 hole_stutter (AllocateAt back place) = 0
 hole_stutter (PassPlace r done left) = passing_stutter left
+hole_stutter (PassAll r done left) = passing_stutter left
 hole_stutter (PassArray r high done left) = passing_stutter left
 hole_stutter (Hold body) = 0
 hole_stutter (ChangeBy down k e) = value_stutter e

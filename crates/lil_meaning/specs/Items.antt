@@ -195,6 +195,8 @@ pub data Hole : Type 0 where
   Pass : (r : Receiver) (k : Kind) (done : List Datum) (left : List Argument) → Hole
   -- the place · is the next argument
   PassPlace : (r : Receiver) (done : List Datum) (left : List Argument) → Hole
+  -- all that lies at the place · is the next argument
+  PassAll : (r : Receiver) (done : List Datum) (left : List Argument) → Hole
   -- the array ·, with this last element, is the next argument
   PassArray : (r : Receiver) (high : ℕ) (done : List Datum) (left : List Argument) → Hole
   -- the first statements where · is TRUE, else the second

@@ -1,7 +1,7 @@
 -- What the calls at hand need of the stack.
 use Rattle.std.specs.Prelude.{ℕ, zero, suc, ◌+◌, ◌<◌, ◌≡◌, ◌⊎◌, List, [], ◌∷◌, length, Option, Some, None, slice_get}
 use Rattle.lil_resolved.specs.{Resolved.{Procedure, Resolved, procedure_by}, Sizes.frame_words}
-use Rattle.lil_meaning.specs.{Items.{loaded_at, Receiver, Requested, Called, Hole, Pass, PassPlace, PassArray, Task, Passing, End, Item, Fill, Perform, Activation, Source}, Steps.{current, owner_of, procedures_of}}
+use Rattle.lil_meaning.specs.{Items.{loaded_at, Receiver, Requested, Called, Hole, Pass, PassPlace, PassAll, PassArray, Task, Passing, End, Item, Fill, Perform, Activation, Source}, Steps.{current, owner_of, procedures_of}}
 
 -- how many words the frame of a procedure takes
 abbrev pub frame_by : Option Procedure → ℕ
@@ -31,6 +31,7 @@ with_callers (Some a) rest = unless_body a.procedure rest
 abbrev pub hole_receiver : Hole → Option Receiver
 hole_receiver (Pass r k done left) = Some r
 hole_receiver (PassPlace r done left) = Some r
+hole_receiver (PassAll r done left) = Some r
 hole_receiver (PassArray r high done left) = Some r
 hole_receiver _ = None
 

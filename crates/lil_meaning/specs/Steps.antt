@@ -7,8 +7,8 @@ use Rattle.lil_base.specs.declared.fault.TrapKind.TheVariants as trap
 use Rattle.lil_base.specs.declared.operator.OneOp.TheVariants as one
 use Rattle.lil_resolved.specs.Kinds.{Kind, OfWhole, OfTruth, OfCharacter, OfEnumeration, OfRange, is_set, is_pointer, nat_of, position, Scalar, Number, Truth, Character, SetOf, ToObject, ToWorkspace, Nil, Nothing, same_reference, within, scalar_word, value_with, ordinal_of, truth_number, truth_of, members_of, Shape, shape_at}
 use Rattle.lil_resolved.specs.Members.{same_members, included, is_in, united, without, shared_members, unshared, from_to}
-use Rattle.lil_resolved.specs.Resolved.{Named, OfModule, OfLevel, Designator, Variable, Handed, Held, Field, Element, Follow, Function, Abs, Cap, Chr, Odd, Ord, Val, Expression, Constant, Taken, One, Two, Short, Apply, With, WithSpan, Argument, ByValue, OfPlace, OfArray, OfText, Label, Statement, Assign, Copy, Text, Change, Member, New, Allocate, Request, If, Case, While, Repeat, Loop, Exit, Halt, Return, Call, For, Inside, Statements, Arms, NoElse, Else, Arm, Procedure, Resolved, procedure_by, counted_as}
-use Rattle.lil_meaning.specs.Items.{Cells, with_locals, Global, Local, Slot, Here, At, Along, Place, under, part_of, object_place, stored, got, alone, text_under, zeros_under, targets_of, loaded_at, Datum, Scalars, Places, Wholes, Opens, Texts, Hole, Get, Part, IndexBy, IndexAt, Pointed, SetTo, StoreAt, CopyTo, CopyFrom, TextTo, NewAt, AllocateBy, AllocateAt, ChangeBy, ChangeAt, OneOf, LeftOf, RightOf, ShortOf, ApplyTo, WithMember, MemberOf, WithMembers, MembersFrom, MembersTo, MemberBy, MemberAt, Receiver, Requested, Called, Pass, PassPlace, PassArray, Choose, Turn, Again, Pick, Hold, StartOf, LimitOf, Task, Do, Passing, Until, Looping, Turns, Holding, End, Item, Value, Evaluate, PlaceOf, Fill, Perform, doing, Activation, Parked, Level, Phase, Going, Closing, Ended, Trapped, Source}
+use Rattle.lil_resolved.specs.Resolved.{Named, OfModule, OfLevel, Designator, Variable, Handed, Held, Field, Element, Follow, Function, Abs, Cap, Chr, Odd, Ord, Val, Expression, Constant, Taken, One, Two, Short, Apply, With, WithSpan, Argument, ByValue, OfPlace, OfAll, OfArray, OfText, Label, Statement, Assign, Copy, Text, Change, Member, New, Allocate, Request, If, Case, While, Repeat, Loop, Exit, Halt, Return, Call, For, Inside, Statements, Arms, NoElse, Else, Arm, Procedure, Resolved, procedure_by, counted_as}
+use Rattle.lil_meaning.specs.Items.{Cells, with_locals, Global, Local, Slot, Here, At, Along, Place, under, part_of, object_place, stored, got, alone, text_under, zeros_under, targets_of, loaded_at, Datum, Scalars, Places, Wholes, Opens, Texts, Hole, Get, Part, IndexBy, IndexAt, Pointed, SetTo, StoreAt, CopyTo, CopyFrom, TextTo, NewAt, AllocateBy, AllocateAt, ChangeBy, ChangeAt, OneOf, LeftOf, RightOf, ShortOf, ApplyTo, WithMember, MemberOf, WithMembers, MembersFrom, MembersTo, MemberBy, MemberAt, Receiver, Requested, Called, Pass, PassPlace, PassAll, PassArray, Choose, Turn, Again, Pick, Hold, StartOf, LimitOf, Task, Do, Passing, Until, Looping, Turns, Holding, End, Item, Value, Evaluate, PlaceOf, Fill, Perform, doing, Activation, Parked, Level, Phase, Going, Closing, Ended, Trapped, Source}
 use Rattle.lil_meaning.specs.World.{World, Given, Single, Characters, serve, closing}
 
 -- the activation at hand: that of the nearest end
@@ -394,6 +394,7 @@ filled_place library (NewAt n) p k s = made (target_of library s n) p k s
 filled_place library (AllocateBy back e) p k s = with_items s (Evaluate e ∷ Fill (AllocateAt back p) ∷ k)
 filled_place library (TextTo cs) p k s = record s { items = k; cells = stored s.cells p (text_under cs) }
 filled_place library (PassPlace r done left) p k s = with_items s (Perform (Passing r (done ++ Places p ∷ []) left) ∷ k)
+filled_place library (PassAll r done left) p k s = with_items s (Perform (Passing r (done ++ Wholes (under s.cells p) ∷ []) left) ∷ k)
 filled_place library (PassArray r high done left) p k s = with_items s (Perform (Passing r (done ++ Opens p high ∷ []) left) ∷ k)
 filled_place library (Hold body) p k s = with_items s (doing body (Perform (Holding p) ∷ k))
 filled_place library (MemberBy out kind e) p k s = with_items s (Evaluate e ∷ Fill (MemberAt out p kind) ∷ k)
@@ -497,6 +498,7 @@ given_of cells (Wholes u) = Characters []
 abbrev pub passed : Receiver → List Datum → List Argument → Argument → List Item → Source → Source
 passed r done left (ByValue kind e) k s = with_items s (Evaluate e ∷ Fill (Pass r kind done left) ∷ k)
 passed r done left (OfPlace d) k s = with_items s (PlaceOf d ∷ Fill (PassPlace r done left) ∷ k)
+passed r done left (OfAll d) k s = with_items s (PlaceOf d ∷ Fill (PassAll r done left) ∷ k)
 passed r done left (OfArray d high) k s = with_items s (PlaceOf d ∷ Fill (PassArray r high done left) ∷ k)
 passed r done left (OfText cs) k s = with_items s (Perform (Passing r (done ++ Texts cs ∷ []) left) ∷ k)
 

@@ -52,11 +52,12 @@ mutual
     -- a set, and the numbers of a kind from a to b in it
     WithSpan : (s : Expression) (k : Kind) (a b : Expression) → Expression
 
--- an argument: a value, with its parameter's kind; a place for a VAR parameter; or for an open array of characters an array, with the number
--- of its last element, or a string
+-- an argument: a value, with its parameter's kind; a place for a VAR parameter; all that lies at a place, for an array or a record by value;
+-- or for an open array of characters an array, with the number of its last element, or a string
 pub data Argument : Type 0 where
   ByValue : (k : Kind) (e : Expression) → Argument
   OfPlace : (d : Designator) → Argument
+  OfAll : (d : Designator) → Argument
   OfArray : (d : Designator) (high : ℕ) → Argument
   OfText : (cs : List ℕ) → Argument
 

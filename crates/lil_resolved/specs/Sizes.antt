@@ -1,7 +1,7 @@
 -- How much a module takes: words of the expression stack, of frames and of strings, and the bytes of its code; and modules that are small.
 use Rattle.std.specs.Prelude.{ℕ, zero, suc, List, [], ◌∷◌, ◌++◌, ◌+◌, max, Bool, true, false, ◌*◌, ◌≤◌, ℤ, length, if◌then◌else◌}
 use Rattle.std.specs.List.{flat_map}
-use Rattle.lil_resolved.specs.Resolved.{Named, OfModule, OfLevel, Argument, ByValue, OfPlace, OfArray, OfText, Statement, Assign, Copy, Text, Change, Member, New, Allocate, Request, If, Case, While, Repeat, Loop, Exit, Halt, Return, Call, For, Inside, Statements, Empty, Then, Arms, NoElse, Else, Arm, Procedure, Resolved, Designator, Variable, Handed, Held, Field, Element, Follow, Function, Odd, Expression, Constant, Taken, One, Two, Short, Apply, With, WithSpan, Abs, Cap, Chr, Ord, Val, kind_of, counted_as}
+use Rattle.lil_resolved.specs.Resolved.{Named, OfModule, OfLevel, Argument, ByValue, OfPlace, OfAll, OfArray, OfText, Statement, Assign, Copy, Text, Change, Member, New, Allocate, Request, If, Case, While, Repeat, Loop, Exit, Halt, Return, Call, For, Inside, Statements, Empty, Then, Arms, NoElse, Else, Arm, Procedure, Resolved, Designator, Variable, Handed, Held, Field, Element, Follow, Function, Odd, Expression, Constant, Taken, One, Two, Short, Apply, With, WithSpan, Abs, Cap, Chr, Ord, Val, kind_of, counted_as}
 use Rattle.lil_resolved.specs.Kinds.{Kind, OfWhole, OfCharacter, base_of, compared_as, covers, outside_turns, Shape, all_words}
 use Rattle.lil_base.specs.{declared.operator.{OneOp.OneOp, TwoOp.{TwoOp, TheVariants.{Greater, AtLeast}}}, Words.{Cardinal, Integer}}
 use Rattle.lil_base.specs.declared.operator.OneOp.TheVariants as one
@@ -16,6 +16,7 @@ words_of (c ∷ cs) = c ∷ cs
 abbrev pub argument_strings : Argument → List ℕ
 argument_strings (ByValue k e) = []
 argument_strings (OfPlace d) = []
+argument_strings (OfAll d) = []
 argument_strings (OfArray d high) = []
 argument_strings (OfText cs) = words_of cs
 
@@ -246,16 +247,18 @@ abbrev mutual
 abbrev pub target_size : Designator → ℕ
 target_size d = place_size d + ready_size (form_of d)
 
--- how many words an argument takes
+-- how many words an argument takes on the expression stack: of what goes by its address, one
 abbrev pub argument_words : Argument → ℕ
 argument_words (ByValue k e) = 1
 argument_words (OfPlace d) = 1
+argument_words (OfAll d) = 1
 argument_words (OfArray d high) = 2
 argument_words (OfText cs) = 2
 
 abbrev pub argument_size : Argument → ℕ
 argument_size (ByValue k e) = size e + test_size k (kind_of e)
 argument_size (OfPlace d) = place_size d + address_size (form_of d)
+argument_size (OfAll d) = place_size d + address_size (form_of d)
 argument_size (OfArray d high) = place_size d + address_size (form_of d) + 3
 argument_size (OfText cs) = 6
 
@@ -263,10 +266,14 @@ abbrev pub arguments_size : List Argument → ℕ
 arguments_size [] = 0
 arguments_size (a ∷ given) = argument_size a + arguments_size given
 
--- the same, where each word goes from the expression stack to the frame that the call begins
+-- how many bytes it takes to bring its words to the frame that a call begins
+abbrev pub push_size : Argument → ℕ
+push_size (OfAll d) = 3
+push_size a = argument_words a
+
 abbrev pub pushed_size : List Argument → ℕ
 pushed_size [] = 0
-pushed_size (a ∷ given) = argument_size a + argument_words a + pushed_size given
+pushed_size (a ∷ given) = argument_size a + push_size a + pushed_size given
 
 -- the code of ALLOCATE and DEALLOCATE behind the address and the number of words
 abbrev pub allocate_size : Bool → ℕ

@@ -7,7 +7,7 @@ use Rattle.lil_base.specs.declared.request.Request as request
 use Rattle.lil_base.specs.declared.request.Request.TheVariants as r
 pub use Rattle.lil_resolved.specs.Kinds.{is_base, is_ordinal, is_set, is_whole, is_plain, is_element, alike, takes_value, stores_value}
 use Rattle.lil_resolved.specs.Kinds.{Objects, Workspaces, Kind, OfWhole, OfTruth, OfCharacter, OfSet, OfPointer, base_of, numbers, within, is_literal, scalar_of, ordinal_of, Shape, Word, Row, Address, Opened, Scope, with_held, MayCall, parameters_of, parameters_at, shape_at, is_there, count_of}
-use Rattle.lil_resolved.specs.Resolved.{Named, variable_at, Designator, Variable, Handed, Held, Field, Element, Follow, Function, Abs, Cap, Chr, Odd, Ord, Val, Expression, Constant, Taken, One, Two, Short, Apply, With, WithSpan, Label, Argument, ByValue, OfPlace, OfArray, OfText, Statement, Assign, Copy, Text, Change, Member, New, Allocate, Request, If, Case, While, Repeat, Loop, Exit, Halt, Return, Call, For, Inside, Statements, Empty, Then, Arms, NoElse, Else, Arm, Procedure, Resolved, procedure_by, scope_in, kind_of, right_kind, counted_as, shape_of}
+use Rattle.lil_resolved.specs.Resolved.{Named, variable_at, Designator, Variable, Handed, Held, Field, Element, Follow, Function, Abs, Cap, Chr, Odd, Ord, Val, Expression, Constant, Taken, One, Two, Short, Apply, With, WithSpan, Label, Argument, ByValue, OfPlace, OfAll, OfArray, OfText, Statement, Assign, Copy, Text, Change, Member, New, Allocate, Request, If, Case, While, Repeat, Loop, Exit, Halt, Return, Call, For, Inside, Statements, Empty, Then, Arms, NoElse, Else, Arm, Procedure, Resolved, procedure_by, scope_in, kind_of, right_kind, counted_as, shape_of}
 use Rattle.lil_resolved.specs.Sizes.{place_depth, depth}
 
 -- an operator takes operands of this kind, and IN a left one
@@ -178,6 +178,7 @@ request_parameters r.WriteHex = Word (OfWhole Cardinal) ∷ Word (OfWhole Cardin
 abbrev pub IsSoundArgument : Scope → Argument → Type 0
 IsSoundArgument ts (ByValue k e) = IsSoundStored ts e k
 IsSoundArgument ts (OfPlace d) = IsSoundHeld ts d
+IsSoundArgument ts (OfAll d) = IsSoundHeld ts d
 IsSoundArgument ts (OfArray d high) = IsSoundArray ts d high
 IsSoundArgument ts (OfText cs) = is_text cs ≡ true
 
@@ -189,19 +190,33 @@ AreSoundArguments ts (a ∷ given) = IsSoundArgument ts a × AreSoundArguments t
 abbrev pub parameter_of : Scope → Argument → Shape
 parameter_of ts (ByValue k e) = Word k
 parameter_of ts (OfPlace d) = Address (shape_of ts d)
+parameter_of ts (OfAll d) = shape_of ts d
 parameter_of ts (OfArray d high) = Opened (Word OfCharacter)
 parameter_of ts (OfText cs) = Opened (Word OfCharacter)
 
--- an argument of one word
+-- an argument that has one word on the expression stack, as those of calls do
 abbrev pub IsSingle : Argument → Type 0
 IsSingle (ByValue k e) = Unit {0}
 IsSingle (OfPlace d) = Unit {0}
+IsSingle (OfAll d) = Unit {0}
 IsSingle (OfArray d high) = ⊥
 IsSingle (OfText cs) = ⊥
 
 abbrev pub AreSingle : List Argument → Type 0
 AreSingle [] = Unit {0}
 AreSingle (a ∷ given) = IsSingle a × AreSingle given
+
+-- an argument of a request: a value, or an open array
+abbrev pub IsServed : Argument → Type 0
+IsServed (ByValue k e) = Unit {0}
+IsServed (OfPlace d) = ⊥
+IsServed (OfAll d) = ⊥
+IsServed (OfArray d high) = Unit {0}
+IsServed (OfText cs) = Unit {0}
+
+abbrev pub AreServed : List Argument → Type 0
+AreServed [] = Unit {0}
+AreServed (a ∷ given) = IsServed a × AreServed given
 
 -- arguments are those of parameters which hold this
 pub record IsGiven (ts : Scope) (parameters : List Shape) (given : List Argument) : Type 0 where
@@ -218,7 +233,7 @@ abbrev mutual
   IsSoundStatement ts looping (Member out d k e) = IsSoundTarget ts d OfSet × (is_element k ≡ true) × IsSoundValue ts e k
   IsSoundStatement ts looping (New d n) = IsSoundNew ts d n
   IsSoundStatement ts looping (Allocate back d e) = IsSoundTarget ts d (OfPointer Workspaces) × IsSoundValue ts e (OfWhole Cardinal)
-  IsSoundStatement ts looping (Request r given) = IsGiven ts (request_parameters r) given
+  IsSoundStatement ts looping (Request r given) = IsGiven ts (request_parameters r) given × AreServed given
   IsSoundStatement ts looping (If c a b) = IsSoundWhole ts c OfTruth × IsSoundBody ts looping a × IsSoundBody ts looping b
   IsSoundStatement ts looping (Case e arms) = (is_ordinal (kind_of e) ≡ true) × IsSoundWhole ts e (kind_of e) × AreSoundArms ts looping (kind_of e) arms
   IsSoundStatement ts looping (While c body) = IsSoundWhole ts c OfTruth × IsSoundBody ts looping body

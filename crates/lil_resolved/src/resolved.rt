@@ -144,6 +144,7 @@ pub enum RMember {
 pub enum RArgument {
     Value(RKind, RExpr),
     Place(RPlace),
+    All(RPlace),
     Array(RPlace, u16),
     Text(Shared<Text>),
 }

@@ -8,7 +8,7 @@ use Rattle.lil_base.specs.declared.request.Request.TheVariants as q
 use Rattle.lil_types.specs.{Types.{Table, integer, cardinal, char, address}, declared.table.Parameter.Parameter}
 use Rattle.lil_declared.specs.declared.{declared.RVar.RVar, standard.Resident.Resident}
 use Rattle.lil_declared.specs.declared.standard.Resident.TheVariants as resident
-use Rattle.lil_resolved.specs.{Kinds.{Shape, Word, Scope, parameters_of, procedure_by}, Sound.{request_parameters, parameter_of, AreSingle, AreSoundArguments}, Views.{argument_of, base_view, allocate_is, request_is, call_is}}
+use Rattle.lil_resolved.specs.{Kinds.{Shape, Word, Scope, parameters_of, procedure_by}, Sound.{request_parameters, parameter_of, AreSingle, AreServed, AreSoundArguments}, Views.{argument_of, base_view, allocate_is, request_is, call_is}}
 use Rattle.lil_resolved.specs.declared.resolved.{Allocation.{Allocation, TheVariants.{Takes, GivesBack}}, RArgument.RArgument, RBase.RBase, RNamed.RNamed, RStmt.RStmt}
 use Rattle.lil_resolved.specs.declared.resolved.RArgument.TheVariants as given
 use Rattle.lil_resolved.specs.declared.resolved.RBase.TheVariants as b
@@ -57,9 +57,9 @@ module _ {t : Table} {vs : RNamed → Option RVar} {around : List ℕ} (P : Prop
   step_right resident sort p s (argument.Value (Some x)) is so h = subst (λ o. Right (IsPassed resident p s) (argument_by t resident o s x)) (sym is) (λ clear. (
     x,
     h,
-    record { value = clear.0; place = clear.1.0; inside = clear.1.1.0 },
+    record { value = clear.0; place = clear.1.0; inside = clear.1.1.0; spelled = clear.1.1.1.0 },
     refl,
-    λ i. so i && (not (clear.0 i) && (not (clear.1.0 i) && not (clear.1.1.0 i))),
+    λ i. so i && (not (clear.0 i) && (not (clear.1.0 i) && (not (clear.1.1.0 i) && not (clear.1.1.1.0 i)))),
   ))
   step_right resident sort p s (argument.Type at n) is so h = λ clear. absurd (true≢false clear.0)
 
@@ -140,8 +140,8 @@ module _ {t : Table} {vs : RNamed → Option RVar} {around : List ℕ} {ts : Sco
   along : (f : Option (List RArgument) → Option RStmt) (h : Option (List RArgument)) → IsMade f h → IsDone (f h)
   along f h made = subst (λ h. IsDone (f h)) (sym made.1) made.2
 
-  requested_there : (r : requests.Request) (xs : List RArgument) → request_parameters r ≡ map (parameter_of ts) (map argument_of xs) → AreSoundArguments ts (map argument_of xs) → IsDone (request (Some r) xs)
-  requested_there r xs same all = made_sound ts looping _ _ (request_is r xs) (record { takes = same; sound = all })
+  requested_there : (r : requests.Request) (xs : List RArgument) → request_parameters r ≡ map (parameter_of ts) (map argument_of xs) → AreSoundArguments ts (map argument_of xs) → AreServed (map argument_of xs) → IsDone (request (Some r) xs)
+  requested_there r xs same all served = made_sound ts looping _ _ (request_is r xs) ((record { takes = same; sound = all }, served))
 
   -- the number to be written, and its width
   number_given : (r : requests.Request) (s : ℕ) (k : RBase) → kind_at t s ≡ Some (plain k) → request_parameters r ≡ Word (base_view k) ∷ Word (base_view b.Cardinal) ∷ []
@@ -151,7 +151,7 @@ module _ {t : Table} {vs : RNamed → Option RVar} {around : List ℕ} {ts : Sco
       let x = stored_there fits told all.0 all.1 s (plain k) at all.2 in
       let y = stored_there fits told all.3.0 all.3.1 cardinal (plain b.Cardinal) refl all.3.2 in
       let xs : List RArgument = given.Value (plain k) x.0 ∷ given.Value (plain b.Cardinal) y.0 ∷ [] in
-      (xs, all.3.3 ∙ (λ i. joined (joined (Some []) (x.1 i)) (y.1 i)), requested_there r xs same (x.2, (y.2, tt)))
+      (xs, all.3.3 ∙ (λ i. joined (joined (Some []) (x.1 i)) (y.1 i)), requested_there r xs same (x.2, (y.2, tt)) (tt, (tt, tt)))
 
   allocation_given : (way : Allocation) (h : Option (List RArgument)) → Hands P told (place address ∷ value cardinal ∷ []) nothing_handed h → (xs : List RArgument) × (h ≡ Some xs) × IsDone (allocation way xs)
   unfolding handed_over
@@ -165,11 +165,11 @@ module _ {t : Table} {vs : RNamed → Option RVar} {around : List ℕ} {ts : Sco
   resident_called resident.Write h is all =
       let x = stored_there fits told all.0 all.1 char (plain b.Character) refl all.2 in
       let xs : List RArgument = given.Value (plain b.Character) x.0 ∷ [] in
-      along (called resident.Write) h (xs, all.3 ∙ ap (joined (Some [])) x.1, requested_there q.Write xs refl (x.2, tt))
+      along (called resident.Write) h (xs, all.3 ∙ ap (joined (Some [])) x.1, requested_there q.Write xs refl (x.2, tt) (tt, tt))
   resident_called resident.WriteString h is all =
       let x = string_there fits told all.0 all.1 all.2 in
-      along (called resident.WriteString) h (x.0 ∷ [], all.3 ∙ ap (joined (Some [])) x.1, requested_there q.WriteString (x.0 ∷ []) (λ i. sym x.2.0 i ∷ []) (x.2.1, tt))
-  resident_called resident.WriteLn h is all = along (called resident.WriteLn) h ([], all, requested_there q.WriteLn [] refl tt)
+      along (called resident.WriteString) h (x.0 ∷ [], all.3 ∙ ap (joined (Some [])) x.1, requested_there q.WriteString (x.0 ∷ []) (λ i. sym x.2.0 i ∷ []) (x.2.1, tt) (x.2.2, tt))
+  resident_called resident.WriteLn h is all = along (called resident.WriteLn) h ([], all, requested_there q.WriteLn [] refl tt tt)
   resident_called resident.WriteCard h is all = along (called resident.WriteCard) h (number_given q.WriteCard cardinal b.Cardinal refl refl h all)
   resident_called resident.WriteInt h is all = along (called resident.WriteInt) h (number_given q.WriteInt integer b.Integer refl refl h all)
   resident_called resident.WriteOct h is all = along (called resident.WriteOct) h (number_given q.WriteOct cardinal b.Cardinal refl refl h all)

@@ -1,30 +1,31 @@
 -- What calls are handed: each argument is there and sound, as its parameter says.
-use Rattle.std.proofs.Common.{◌≡◌, ℕ, suc, ◌+◌, ◌≤◌, Bool, true, false, not, ◌||◌, List, slice_get, Option, Some, None, if◌then◌else◌, refl, sym, ap, subst, ◌∙◌, arith, true≢false}
-use Rattle.std.specs.Prelude.{ℤ, pos, negsuc, ◌≤ℤ◌, ◌+ℤ◌, ◌-ℤ◌, ◌==◌, ◌&&◌, nat_le}
+use Rattle.std.proofs.Common.{◌≡◌, ℕ, suc, ◌+◌, ◌≤◌, Bool, true, false, not, ◌||◌, List, slice_get, Option, Some, None, if◌then◌else◌, refl, sym, ap, subst, ◌∙◌, arith, true≢false, inl, inr}
+use Rattle.std.specs.Prelude.{ℤ, pos, negsuc, ◌≤ℤ◌, ◌+ℤ◌, ◌-ℤ◌, ◌==◌, ◌&&◌, nat_le, is_some}
 use Rattle.std.specs.Option.{option_map}
 use Rattle.std.proofs.lemmas.{Int.ints, Option.{none-some, same_Some}, Bool.Decides.nat_tests}
 use Rattle.lil_types.specs.{Types.{Table, char, address, meant, same}, declared.table.Parameter.Parameter}
 use Rattle.lil_declared.specs.declared.declared.RVar.{RVar}
 use Rattle.lil_resolved.specs.Kinds as kinds
-use Rattle.lil_resolved.specs.{Kinds.{Shape, Word, Address, Opened, OfCharacter, Scope, OfPointer, Workspaces, nat_of, is_there}, Resolved.shape_of, Sizes.{place_depth, depth}, Sound.{parameter_of, IsSingle, IsSoundArgument, IsSoundStored, IsSoundTarget, IsSoundValue, IsSoundWhole}, Views.{argument_of, base_view, held_by, kind_view, expression_of, place_of}, declared.resolved.{RArgument.RArgument, RBase.RBase, RExpr.RExpr, RKind.RKind, RNamed.RNamed, RPassing.TheVariants.{ByValue, ByPlace}, RPlace.RPlace}}
+use Rattle.lil_resolved.specs.{Kinds.{Shape, Word, Address, Opened, OfCharacter, Scope, OfPointer, Workspaces, nat_of, is_there}, Resolved.shape_of, Sizes.{place_depth, depth}, Sound.{parameter_of, IsServed, IsSingle, IsSoundArgument, IsSoundStored, IsSoundTarget, IsSoundValue, IsSoundWhole}, Views.{argument_of, base_view, held_by, kind_view, expression_of, place_of}, declared.resolved.{RArgument.RArgument, RBase.RBase, RExpr.RExpr, RKind.RKind, RNamed.RNamed, RPassing.TheVariants.{ByValue, ByPlace}, RPlace.RPlace}}
 use Rattle.lil_resolved.specs.declared.resolved.RArgument.TheVariants as given
 use Rattle.lil_resolved.specs.declared.resolved.RBase.TheVariants as b
-use Rattle.lil_shapes.specs.{BaseLaws.{same_sort, kind_base}, Bases.{plain, base_at, kind_at, numbers_of, characters_in, characters_at}, ShapeSound.{mapped, word_shaped}, Shaping.there}
+use Rattle.lil_shapes.specs.{BaseLaws.{same_sort, kind_base}, Pointers.lies_at, Bases.{plain, base_at, kind_at, composite_at, numbers_of, characters_in, characters_at}, ShapeSound.{mapped, word_shaped}, Shaping.there}
 use Rattle.lil_scope.specs.declared.thing.Kind.{Kind}
 use Rattle.lil_scope.specs.declared.thing.Kind.TheVariants as k
 use Rattle.lil_kinds.specs.{Forms.array_parts, declared.{forms.ArrayParts.ArrayParts, found.{Form.Form, Found.Found, Located.Located}}}
 use Rattle.lil_kinds.specs.declared.found.Form.TheVariants as form
-use Rattle.lil_forms.specs.{Properties.{Property, value_kind}, Scopes.{Fits, has_shape, both_left, both_right}, Soundness.{soundness, Lies, characters_lie}, Statements.{last_of, array_as, array_given, string_given, value_as, value_by, located_in, place_given, argument_given}, Values.typed}
+use Rattle.lil_forms.specs.{Properties.{Property, value_kind}, Scopes.{Fits, has_shape, both_left, both_right}, Soundness.{soundness, Lies, characters_lie}, Statements.{last_of, array_as, array_given, string_given, value_as, value_by, located_in, place_given, whole_given, argument_given}, Values.typed}
 use Rattle.lil_forms.specs.Soundness as forms
-use Rattle.lil_call.specs.Passing.{has_elements, is_array_of, is_of, is_open, is_text, is_variable, is_wrong_value, is_wrong_place, is_outside}
+use Rattle.lil_call.specs.Passing.{has_elements, is_array_of, is_of, is_open, is_text, is_variable, is_wrong_value, is_wrong_place, is_outside, is_spelled}
 use Rattle.lil_right_type.specs.{Found.{KindTold, LiesAt, GoesWith, IsFound, ParameterTold, value, place}, Parts.{IsArray, no_kind, array_is}, Right.{IsThere, is_so}, Sound.stored_sound, Typed.{Suits, Stores, assignable_stores, stores_suits}, Types.{IsTold, IsOrdinal, meant_is, known_ordinal}}
-use Rattle.lil_right_call.specs.{Functions.number_bounds, Places.{IsVariable, variable_is, target_sound}, Told.parameter_shape}
+use Rattle.lil_right_call.specs.{Functions.number_bounds, Places.{IsVariable, variable_is, target_sound}, Told.parameter_shape, Wholes.whole_or_spelled}
 
 -- what the tests of an argument leave
 pub record IsTaken (t : Table) (p : Parameter) (x : Found) : Type 0 where
   pub value : is_wrong_value t p x.kind ≡ false
   pub place : is_wrong_place t p x.standing x.kind ≡ false
   pub inside : is_outside t p x.kind ≡ false
+  pub spelled : is_spelled t p x.kind ≡ false
 
 abbrev pub open_array : ℕ → Parameter
 open_array s = record { by_place = false; open_array = true; sort = s }
@@ -47,7 +48,7 @@ module _ {t : Table} {vs : RNamed → Option RVar} {around : List ℕ} {ts : Sco
   module _ (told : IsTold t) where
     -- ---- strings
     abbrev IsString : RArgument → Type 0
-    IsString a = (parameter_of ts (argument_of a) ≡ Opened (Word OfCharacter)) × IsSoundArgument ts (argument_of a)
+    IsString a = (parameter_of ts (argument_of a) ≡ Opened (Word OfCharacter)) × IsSoundArgument ts (argument_of a) × IsServed (argument_of a)
 
     -- an array of so many characters has a last one
     last_there : (q : Located) (z : ℤ) → pos 0 ≤ℤ z → z ≤ℤ pos 65535 → characters_at t q.sort ≡ Some (nat_of (z +ℤ pos 1)) → Lies fits q → place_depth (place_of q.place) ≤ 13 → IsThere IsString (array_given t q)
@@ -57,7 +58,7 @@ module _ {t : Table} {vs : RNamed → Option RVar} {around : List ℕ} {ts : Sco
         let number : characters_at t q.sort ≡ Some (suc n) = many ∙ ap Some more in
         let fit : nat_le n 65535 ≡ true = grind (arith, nat_tests, ints, few) in
         subst (λ o. IsThere IsString (array_as q (last_of o))) (sym number)
-        (subst (λ c. IsThere IsString (array_as q (if c then Some n else None))) (sym fit) (refl, record { shape = characters_lie fits q (suc n) lies number; place = lies.good; shallow = shallow }))
+        (subst (λ c. IsThere IsString (array_as q (if c then Some n else None))) (sym fit) (refl, record { shape = characters_lie fits q (suc n) lies number; place = lies.good; shallow = shallow }, tt))
 
     array_there : (q : Located) (n d : ℕ) (p : ArrayParts) → d ≤ 12 → LiesAt P n d q → array_parts t n ≡ Some p → same t p.element char ≡ true → IsThere IsString (array_given t q)
     array_there q n d p few lies is of =
@@ -71,7 +72,7 @@ module _ {t : Table} {vs : RNamed → Option RVar} {around : List ℕ} {ts : Sco
 
     -- what goes with a string, or with an array of characters
     string_by : (d : ℕ) (a : Kind) (f : Form) → d ≤ 12 → KindTold t a → GoesWith P d a f → (is_array_of t char a || is_text a) ≡ true → IsThere IsString (string_given t f)
-    string_by d (k.Chars c) (form.Text cs) few fine goes h = (refl, goes.1)
+    string_by d (k.Chars c) (form.Text cs) few fine goes h = (refl, goes.1, tt)
     string_by d (k.Chars c) _ few fine goes h = absurd goes
     string_by d (k.Of n) f few fine goes h = by (array_parts t n) refl f goes (grind (arith, nat_tests, h))
       where
@@ -127,6 +128,18 @@ module _ {t : Table} {vs : RNamed → Option RVar} {around : List ℕ} {ts : Sco
           let here = forms.there_is (slice_get fits.shapes s) held.0 held.1 in
           record { argument = given.Value j v.0; is = v.1; shape = sym held.2 ∙ word_shaped t fits.shapes s held.0 (has_shape fits s held.0 here.0) j at; sound = v.2; single = tt }
 
+      whole_argument : (s : ℕ) (y : Shape) → kind_at t s ≡ None → lies_at t s ≡ true → parameter_shape fits.shapes (value s) ≡ Some y → IsTaken t (value s) x → IsArgument (value s) y
+      whole_argument s y none alive lies taken =
+          let composite : composite_at t s ≡ true = ap (λ o. is_some o || composite_at t s) (sym none) ∙ alive in
+          let held = mapped (held_by ByValue) (there (slice_get fits.shapes s)) y lies in
+          let here = forms.there_is (slice_get fits.shapes s) held.0 held.1 in
+          elim (whole_or_spelled P told s composite x.depth x.kind x.form h.kind h.form (both_right (not (is_open x.kind)) _ (is_so _ taken.value))) [
+            | inl v ↦
+                let same : held.0 ≡ shape_of ts (place_of v.at.place) = same_Some held.0 (shape_of ts (place_of v.at.place)) (sym here.0 ∙ ap (slice_get fits.shapes) (sym v.lies.sort) ∙ v.lies.good.shape) in
+                record { argument = given.All v.at.place; is = ap (λ o. value_by t s o x) none ∙ ap (λ f. whole_given (located_in f)) v.is; shape = sym held.2 ∙ same; sound = record { there = sym (ap is_there same) ∙ here.1; place = v.lies.good.good; shallow = omega (arith, h.few, v.lies.deep) }; single = tt }
+            | inr v ↦ absurd (true≢false (sym (λ i. is_text (v.its i) && composite i) ∙ taken.spelled))
+          ]
+
       place_argument : (s : ℕ) (y : Shape) → parameter_shape fits.shapes (place s) ≡ Some y → IsTaken t (place s) x → IsArgument (place s) y
       place_argument s y lies taken =
           let v = place_there s taken in
@@ -135,6 +148,13 @@ module _ {t : Table} {vs : RNamed → Option RVar} {around : List ℕ} {ts : Sco
           let here = forms.there_is (slice_get fits.shapes s) held.0 held.1 in
           let same : held.0 ≡ shape_of ts (place_of at.place) = same_Some held.0 (shape_of ts (place_of at.place)) (sym here.0 ∙ ap (slice_get fits.shapes) (sym (v.0.same ∙ v.1)) ∙ v.0.good.shape) in
           record { argument = given.Place at.place; is = v.2; shape = sym held.2 ∙ ap Address same; sound = record { there = sym (ap is_there same) ∙ here.1; place = v.0.good.good; shallow = v.0.deep }; single = tt }
+
+      by_value : (s : ℕ) (y : Shape) → lies_at t s ≡ true → parameter_shape fits.shapes (value s) ≡ Some y → IsTaken t (value s) x → IsArgument (value s) y
+      by_value s y alive lies taken = by (kind_at t s) refl
+        where
+          by : (o : Option RKind) → kind_at t s ≡ o → IsArgument (value s) y
+          by None none = whole_argument s y none alive lies taken
+          by (Some j) at = value_argument s j y at lies taken
 
       pub argument_there : (p : Parameter) (y : Shape) → ParameterTold t p → parameter_shape fits.shapes p ≡ Some y → IsTaken t p x → IsArgument p y
       argument_there p y of lies taken = by p.by_place refl
@@ -145,5 +165,5 @@ module _ {t : Table} {vs : RNamed → Option RVar} {around : List ℕ} {ts : Sco
               subst (λ (q : Parameter). IsArgument q y) (sym same) (place_argument p.sort y (subst (λ (q : Parameter). parameter_shape fits.shapes q ≡ Some y) same lies) (subst (λ (q : Parameter). IsTaken t q x) same taken))
           by false is =
               let same : p ≡ value p.sort = λ i. record { by_place = is i; open_array = of.closed i; sort = p.sort } in
-              let kind = of.single is in
-              subst (λ (q : Parameter). IsArgument q y) (sym same) (value_argument p.sort kind.0 y kind.1 (subst (λ (q : Parameter). parameter_shape fits.shapes q ≡ Some y) same lies) (subst (λ (q : Parameter). IsTaken t q x) same taken))
+              subst (λ (q : Parameter). IsArgument q y) (sym same)
+              (by_value p.sort y of.lies (subst (λ (q : Parameter). parameter_shape fits.shapes q ≡ Some y) same lies) (subst (λ (q : Parameter). IsTaken t q x) same taken))

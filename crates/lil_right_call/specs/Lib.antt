@@ -4,3 +4,4 @@ pub mod Given
 pub mod Places
 pub mod Procedures
 pub mod Told
+pub mod Wholes

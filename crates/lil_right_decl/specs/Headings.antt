@@ -17,7 +17,7 @@ use Rattle.lil_scope.specs.declared.thing.Thing.TheVariants as thing
 use Rattle.lil_scope.specs.Names as names
 use Rattle.lil_check_value.specs.{Looks.{not_built}}
 use Rattle.lil_check_type.specs.{declared.routines.Parameters.Parameters, Made.{Made, type_node, form_node}, Records.{no_parameters, result_means, procedure_form}}
-use Rattle.lil_check_decl.specs.{Decls.{Means, procedure_means}, Headings.{Headed, section_step, home_at, procedure_thing, with_procedure, numbered_node, named_means, is_unbuilt, has_more, heading_means}}
+use Rattle.lil_check_decl.specs.{Decls.{Means, procedure_means}, Headings.{Headed, section_step, home_at, procedure_thing, with_procedure, numbered_node, named_means, is_open, has_more, heading_means}}
 use Rattle.lil_check_stmt.specs.Texts.{Texts}
 use Rattle.lil_right_type.specs.{Right.{Right, after_right}, Found.{ParameterTold, HeadingTold, AreHeaded}, Homes.{HasPassing, IsHome, OnPath, IsParameter, Longer, last_locals, homed_procedure, stands_stays, stands_inside}}
 use Rattle.lil_right_type.specs.Homes as homes
@@ -91,7 +91,7 @@ module _ (e : Env) (begun : Begun e) (h : Heading) where
   abbrev headed : Parameters → List Names → List (List RVar) → ℕ → Env
   headed ps bs ls n = with_procedure h.name.name (k e) (Some n) (names.with_blocks (record (with_parts e bs ls) { types = u ps }) (bound_at bs e.scopes.inner h.name.name (names.entry (procedure_thing (k e) (Some n) e) h.name.place)))
 
-  module _ (ps : Parameters) (bs : List Names) (ls : List (List RVar)) (n : ℕ) (given : added_number e.types (proper ps) ≡ Some n) (room : length e.procedures < 250) (few : Few (u ps)) (p : ArePassed e bs ls ps) (none : list_any (is_unbuilt e.types) ps.list ≡ false) where
+  module _ (ps : Parameters) (bs : List Names) (ls : List (List RVar)) (n : ℕ) (given : added_number e.types (proper ps) ≡ Some n) (room : length e.procedures < 250) (few : Few (u ps)) (p : ArePassed e bs ls ps) (none : list_any is_open ps.list ≡ false) where
     before : Declared e
     before = begun (few_before e.types (u ps) (added_grown e.types (own e.types) (proper ps)) few)
 
@@ -103,7 +103,7 @@ module _ (e : Env) (begun : Begun e) (h : Heading) where
 
     built : AllFine (ParameterTold (u ps)) ps.list
     built = all_then (ParameterTold e.types) (ParameterTold (u ps)) (parameter_stays e.types (u ps) before.told.types (grown_kept e.types (u ps) (added_grown e.types (own e.types) (proper ps)))) ps.list
-        (all_built e.types before.told.types ps.list p.lie none)
+        (all_built e.types ps.list p.lie none)
 
     lie : AllLie HasPassing (u ps) p.own
     lie = paired_lie (u ps) ps.list p.own p.paired built
@@ -168,7 +168,7 @@ module _ (e : Env) (begun : Begun e) (h : Heading) where
     headed_told = subst (λ (ls : List (List RVar)). Declared (headed ps bs ls n)) (sym p.locals_are) (subst (λ (bs : List Names). Declared (headed ps bs (e.locals ++ p.own ∷ []) n)) (sym p.blocks_are) last_declared)
 
   -- ---- behind its parameters
-  module _ (ps : Parameters) (bs : List Names) (ls : List (List RVar)) (told : Few e.types → ArePassed e bs ls ps) (none : list_any (is_unbuilt e.types) ps.list ≡ false) where
+  module _ (ps : Parameters) (bs : List Names) (ls : List (List RVar)) (told : Few e.types → ArePassed e bs ls ps) (none : list_any is_open ps.list ≡ false) where
     abbrev f : Env
     f = with_parts e bs ls
 
@@ -201,13 +201,13 @@ module _ (e : Env) (begun : Begun e) (h : Heading) where
         by true is = after_right IsTyped (IsHeaded e) (type_node f h.place (proper ps)) (named_means (k e) h.name) typed_right named_right
         by false is = broken_right is
 
-  parts_right : (q : Headed) → IsHeading e q → (r : Option Qualident) → Right (IsHeaded e) (not_built (has_more q.0.types q.1.list r) h.place (after (after (result_means q.0 r) (λ n. form_node q.0 h.place (procedure_form q.1 n))) (named_means (k e) h.name)))
+  parts_right : (q : Headed) → IsHeading e q → (r : Option Qualident) → Right (IsHeaded e) (not_built (has_more q.1.list r) h.place (after (after (result_means q.0 r) (λ n. form_node q.0 h.place (procedure_form q.1 n))) (named_means (k e) h.name)))
   unfolding not_built
-  parts_right q j r = subst (λ (q : Headed). Right (IsHeaded e) (not_built (has_more q.0.types q.1.list r) h.place (after (after (result_means q.0 r) (λ n. form_node q.0 h.place (procedure_form q.1 n))) (named_means (k e) h.name)))) (λ i. (sym j.is i, q.1)) (by r)
+  parts_right q j r = subst (λ (q : Headed). Right (IsHeaded e) (not_built (has_more q.1.list r) h.place (after (after (result_means q.0 r) (λ n. form_node q.0 h.place (procedure_form q.1 n))) (named_means (k e) h.name)))) (λ i. (sym j.is i, q.1)) (by r)
     where
-      by : (r : Option Qualident) → Right (IsHeaded e) (not_built (has_more e.types q.1.list r) h.place (after (after (result_means (with_parts e j.blocks j.locals) r) (λ n. form_node (with_parts e j.blocks j.locals) h.place (procedure_form q.1 n))) (named_means (k e) h.name)))
-      by None clear = rest_right q.1 j.blocks j.locals j.told (or_parts (list_any (is_unbuilt e.types) q.1.list) false clear.0).0 clear.1
-      by (Some x) clear = absurd (true≢false (or_parts (list_any (is_unbuilt e.types) q.1.list) true clear.0).1)
+      by : (r : Option Qualident) → Right (IsHeaded e) (not_built (has_more q.1.list r) h.place (after (after (result_means (with_parts e j.blocks j.locals) r) (λ n. form_node (with_parts e j.blocks j.locals) h.place (procedure_form q.1 n))) (named_means (k e) h.name)))
+      by None clear = rest_right q.1 j.blocks j.locals j.told (or_parts (list_any is_open q.1.list) false clear.0).0 clear.1
+      by (Some x) clear = absurd (true≢false (or_parts (list_any is_open q.1.list) true clear.0).1)
 
   pub heading_right : Right (IsHeaded e) (heading_means e h)
   heading_right = after_right (IsHeading e) (IsHeaded e) (walk (section_step (home_at e (k e))) (names.begun e, no_parameters) h.sections) _

@@ -20,7 +20,7 @@ use Rattle.lil_scope.specs.Names as names
 use Rattle.lil_check_value.specs.{declared.names.Looked.{Looked, TheVariants.{Thing as Declared_as}}, Looks.{nearest, looked_as, or_declared, look, module_of, module_node, member_type, type_by, type_named}}
 use Rattle.lil_check_value.specs.Looks.{type_node as type_of_name}
 use Rattle.lil_check_type.specs.{declared.routines.Parameters.Parameters, Records.{is_structure, sort_or, no_parameters, with_parameter}}
-use Rattle.lil_check_decl.specs.{declared.home.Home.Home, Headings.{variable_thing, with_variable, mode_of, section_home, Headed, parameter_step, section_step, home_at, is_unbuilt}}
+use Rattle.lil_check_decl.specs.{declared.home.Home.Home, Headings.{variable_thing, with_variable, mode_of, section_home, Headed, parameter_step, section_step, home_at, is_open}}
 use Rattle.lil_right_type.specs.{Right.{Right, after_right}, Found.{ParameterTold, passing_by, AreHeaded, EnvTold}, Homes.{HasPassing, IsHome, OnPath, last_locals}, Types.{IsTold, meant_is}}
 use Rattle.lil_right_value.specs.Names.{Lies, LookTold, look_told, named_lies, bound_is}
 use Rattle.lil_right_sort.specs.{Growth.{all_then, Few, last_there, AllLie}, Simple.{Begun, walk_keeps}}
@@ -92,32 +92,10 @@ module _ (t : Table) where
   paired_headed (p ∷ ps) (v ∷ vs) h all = (h.0, h.1 ∙ its_mode p all.0, paired_headed ps vs h.2 all.1)
   paired_headed _ _ h all = absurd h
 
--- ---- parameters in which nothing isn't built
-no_structure : (t : Table) → IsTold t → (n : ℕ) → is_structure t n ≡ false → composite_at t n ≡ false
-unfolding is_record array_parts shape
-no_structure t told n none = by (entry t n) (sym (ap (λ m. is_form is_record_form (form_in (entry t m)) || is_some (of_form array_of (form_in (entry t m)))) (meant_is t told n)) ∙ none)
-  where
-    by : (o : Option TypeEntry) → (is_form is_record_form (form_in o) || is_some (of_form array_of (form_in o))) ≡ false → composite_by o ≡ false
-    by None h = refl
-    by (Some x) h = in_form x.form h
-      where
-        in_form : (f : TypeForm) → (is_record_form f || is_some (array_of f)) ≡ false → is_composite f ≡ false
-        in_form (form.Array i m) h = absurd (true≢false h)
-        in_form (form.Record xs) h = absurd (true≢false h)
-        in_form _ h = refl
-
-parameter_built : (t : Table) → IsTold t → (p : Parameter) → lies_at t p.sort ≡ true → is_unbuilt t p ≡ false → ParameterTold t p
-parameter_built t told p lies built =
-    let parts = or_parts p.open_array _ built in
-    record { closed = parts.0; lies = lies; single = λ value. kind_there (kind_at t p.sort) lies (no_structure t told p.sort (ap (λ c. not c && is_structure t p.sort) (sym value) ∙ parts.1)) }
-  where
-    kind_there : (o : Option RKind) → (is_some o || composite_at t p.sort) ≡ true → composite_at t p.sort ≡ false → (j : RKind) × (o ≡ Some j)
-    kind_there None lies plain = absurd (true≢false (sym lies ∙ plain))
-    kind_there (Some j) lies plain = (j, refl)
-
-pub all_built : (t : Table) → IsTold t → (ps : List Parameter) → AllFine (λ (p : Parameter). lies_at t p.sort ≡ true) ps → list_any (is_unbuilt t) ps ≡ false → AllFine (ParameterTold t) ps
-all_built t told [] lie none = tt
-all_built t told (p ∷ ps) lie none = let parts = or_parts (is_unbuilt t p) _ none in (parameter_built t told p lie.0 parts.0, all_built t told ps lie.1 parts.1)
+-- ---- parameters that are no open arrays
+pub all_built : (t : Table) (ps : List Parameter) → AllFine (λ (p : Parameter). lies_at t p.sort ≡ true) ps → list_any is_open ps ≡ false → AllFine (ParameterTold t) ps
+all_built t [] lie none = tt
+all_built t (p ∷ ps) lie none = let parts = or_parts p.open_array _ none in (record { closed = parts.0; lies = lie.0 }, all_built t ps lie.1 parts.1)
 
 -- ---- the parameters of a heading, around which is e
 module _ (e : Env) where

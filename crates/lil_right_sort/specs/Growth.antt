@@ -202,7 +202,7 @@ module _ {to : ℕ} (t u : Table) (told : IsTold t) (kept : Kept to t u) where
   same_signature s here = (same_heading parameters_in (λ e a form. sym (ap parameters_of form)) s here, same_heading (of_form result_of) (λ e a form. sym (ap result_of form)) s here)
 
   pub parameter_stays : (p : Parameter) → ParameterTold t p → ParameterTold u p
-  parameter_stays p h = record { closed = h.closed; lies = lies_stays p.sort h.lies; single = λ e. let k = h.single e in (k.0, kind_stays p.sort k.0 k.1) }
+  parameter_stays p h = record { closed = h.closed; lies = lies_stays p.sort h.lies }
 
   pub heading_stays : (s : ℕ) → s < next t → HeadingTold t s → HeadingTold u s
   heading_stays s here h =

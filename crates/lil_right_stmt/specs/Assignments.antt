@@ -17,6 +17,7 @@ use Rattle.lil_kinds.specs.{Forms.array_parts, Kinds.{suits, compatible, passes,
 use Rattle.lil_kinds.specs.declared.found.Form.TheVariants as form
 use Rattle.lil_forms.specs.{Places.{cell_as, cell}, Scopes.{Fits, both_left, both_right}, Soundness.{soundness, composite_there, characters_lie}, Statements.{stored, composed, assigned, located_in}, StatementSound.{StatementSound, made_sound}, Values.typed}
 use Rattle.lil_right_type.specs.{Found.{KindTold, LiesAt, GoesWith, IsLocated, IsFound}, Parts.{no_kind, array_is, has_nil_is, whole_is, or_of}, Right.{Right, IsThere, is_so}, Sound.{stored_sound, target_sound}, Typed.{Stores, either, assignable_stores}, Types.{IsTold, HasSpan, known_ordinal, span_is}}
+use Rattle.lil_right_call.specs.Wholes.{IsWhole, IsSpelled, whole_or_spelled}
 use Rattle.lil_check_stmt.specs.Nodes.{takes, outside, assign_node}
 
 -- ---- places
@@ -48,25 +49,6 @@ module _ (t : Table) (told : IsTold t) where
             ap (nat_le n) many ∙ room,
           )
 
-  -- ---- arrays and records as wholes
-  module _ (p : Located) (composite : composite_at t p.sort ≡ true) where
-    no_base : (k : RBase) → base_at t (base t p.sort) ≡ Some k → ⊥
-    no_base k is = let none = no_kind t told p.sort composite in none-some k (sym none.1 ∙ sym (ap (base_at t) none.0) ∙ is)
-
-    other_base : (n : ℕ) (k : RBase) → base_at t n ≡ Some k → (base t p.sort == n) ≡ true → ⊥
-    other_base n k is same = no_base k (ap (base_at t) (same_sort (base t p.sort) n same) ∙ is)
-
-    no_whole : is_whole t p.sort ≡ true → ⊥
-    no_whole low = let span : HasSpan t p.sort = whole_is t told p.sort low in let o = known_ordinal t told p.sort span.0 span.1 in no_base o.kind.base o.base
-
-    -- what lies in a variable of the same base is of the same type
-    same_type : (r : ℕ) → lies_at t r ≡ true → (base t p.sort == base t r) ≡ true → r ≡ p.sort
-    same_type r lies same = by (kind_at t r) refl
-      where
-        by : (o : Option RKind) → kind_at t r ≡ o → r ≡ p.sort
-        by None none = sym (no_kind t told r (or_of (is_some (kind_at t r)) (composite_at t r) lies (ap is_some none))).0 ∙ sym (same_sort (base t p.sort) (base t r) same) ∙ (no_kind t told p.sort composite).0
-        by (Some j) at = absurd (other_base (base t r) j.base (kind_base t r j at) same)
-
 module _ {t : Table} {vs : RNamed → Option RVar} {around : List ℕ} {ts : Scope} (fits : Fits t vs around ts) (told : IsTold t) (looping : Bool) where
   abbrev Made : Option RStmt → Type 0
   Made o = IsThere (StatementSound ts looping) o
@@ -74,48 +56,27 @@ module _ {t : Table} {vs : RNamed → Option RVar} {around : List ℕ} {ts : Sco
   module _ (p : Located) (at : ℕ) (n : ℕ) (few : n ≤ 12) (lies : LiesAt (soundness fits) at n p) where
     -- ---- arrays and records as wholes
     module _ (composite : composite_at t p.sort ≡ true) where
-      suited : (d : ℕ) (kind : Kind) (f : Form) → d ≤ 12 → KindTold t kind → GoesWith (soundness fits) d kind f → suits t p.sort kind ≡ true → Made (composed p f)
-      unfolding suits
-      suited d (k.Whole z) f low fine goes so = elim (either (base t p.sort == integer && _) (base t p.sort == cardinal && _) so) [
-        | inl e ↦ absurd (other_base t told p composite integer b.Integer refl (both_left (base t p.sort == integer) _ e))
-        | inr e ↦ absurd (other_base t told p composite cardinal b.Cardinal refl (both_left (base t p.sort == cardinal) _ e))
-      ]
-      suited d (k.Scalar r w) f low fine goes so = absurd (other_base t told p composite (base t r) fine.0 fine.1 so)
-      suited d (k.Chars c) f low fine goes so = absurd (other_base t told p composite char b.Character refl (both_right (c.length == 1) _ so))
-      suited d k.Nil f low fine goes so = elim (has_nil_is t told p.sort so) [
-        | inl e ↦ absurd (no_base t told p composite (b.Pointer p.sort) (ap (base_at t) e.1.own ∙ e.1.base))
-        | inr e ↦ absurd (true≢false (sym composite ∙ ap (composite_at t) e))
-      ]
-      suited d (k.Of r) (form.Located q) low fine goes so = made_sound ts looping _ _ (copy_is p.place q.place) (record {
-        same = same_Some (shape_of ts (place_of q.place)) (shape_of ts (place_of p.place)) (sym goes.good.shape ∙ ap (slice_get fits.shapes) (goes.sort ∙ same_type t told p composite r fine so) ∙ lies.good.shape);
+      whole_composed : (d : ℕ) (f : Form) → d ≤ 12 → IsWhole (soundness fits) told p.sort composite d f → Made (composed p f)
+      whole_composed d f low v = subst (λ f. Made (composed p f)) (sym v.is) (made_sound ts looping _ _ (copy_is p.place v.at.place) (record {
+        same = same_Some (shape_of ts (place_of v.at.place)) (shape_of ts (place_of p.place)) (sym v.lies.good.shape ∙ ap (slice_get fits.shapes) v.lies.sort ∙ lies.good.shape);
         there = composite_there fits p lies.good composite;
         place = lies.good.good;
-        source = goes.good.good;
+        source = v.lies.good.good;
         shallow = omega (arith, few, lies.deep);
-        source_shallow = omega (arith, low, goes.deep);
-      })
-      suited d (k.Of r) (form.Value x) low fine goes so = absurd (other_base t told p composite (base t r) goes.as_kind.base (kind_base t r goes.as_kind goes.at) so)
-      suited d (k.Of r) _ low fine goes so = absurd goes
-      suited d _ f low fine goes so = absurd fine
+        source_shallow = omega (arith, low, v.lies.deep);
+      }))
 
-      passed : (d : ℕ) (kind : Kind) (f : Form) → KindTold t kind → GoesWith (soundness fits) d kind f → passes t p.sort kind ≡ true → Made (composed p f)
-      unfolding passes
-      passed d (k.Whole z) f fine goes so = absurd (no_whole t told p composite so)
-      passed d (k.Scalar r w) f fine goes so = absurd (no_whole t told p composite (both_left (is_whole t p.sort) _ so))
-      passed d (k.Chars c) (form.Text cs) fine goes so =
-          let a = characters_are t told p.sort c.length so in
-          made_sound ts looping _ _ (text_is p.place cs) (record {
+      spelled_composed : (kind : Kind) (f : Form) → IsSpelled (soundness fits) told p.sort composite kind f → Made (composed p f)
+      spelled_composed kind f v = subst (λ f. Made (composed p f)) (sym v.is)
+          (let a = characters_are t told p.sort v.characters.length v.fits in
+          made_sound ts looping _ _ (text_is p.place v.text) (record {
             count = a.0;
             shape = characters_lie fits p a.0 lies.good a.1;
-            fits = subst (λ n. n ≤ a.0) (sym goes.0) (at_most c.length a.0 a.2);
-            text = goes.1;
+            fits = subst (λ n. n ≤ a.0) (sym v.holds_it.0) (at_most v.characters.length a.0 a.2);
+            text = v.holds_it.1;
             place = lies.good.good;
             shallow = omega (arith, few, lies.deep);
-          })
-      passed d (k.Chars c) _ fine goes so = absurd goes
-      passed d k.Nil f fine goes so = cc
-      passed d (k.Of r) f fine goes so = absurd (no_whole t told p composite (both_left (is_whole t p.sort) _ so))
-      passed d _ f fine goes so = absurd fine
+          }))
 
     -- ---- assignments to a place
     placed_right : (v : Found) → IsFound (soundness fits) v → lies_at t p.sort ≡ true → assignable t p.sort v.kind ≡ true → misses t p.sort v.kind ≡ false → Made (assigned t (Some p) v)
@@ -132,9 +93,9 @@ module _ {t : Table} {vs : RNamed → Option RVar} {around : List ℕ} {ts : Sco
 
         by : (c : Bool) → composite_at t p.sort ≡ c → Made (if c then composed p v.form else stored (cell t (Some p)) (typed t p.sort v))
         by false is = scalar (kind_at t p.sort) refl is
-        by true is = elim (either (suits t p.sort v.kind) (passes t p.sort v.kind) so) [
-          | inl e ↦ suited is v.depth v.kind v.form h.few h.kind h.form e
-          | inr e ↦ passed is v.depth v.kind v.form h.kind h.form e
+        by true is = elim (whole_or_spelled (soundness fits) told p.sort is v.depth v.kind v.form h.kind h.form so) [
+          | inl e ↦ whole_composed is v.depth v.form h.few e
+          | inr e ↦ spelled_composed is v.kind v.form e
         ]
 
   pub assign_right : (at : Place) (a v : Found) → IsFound (soundness fits) a → IsLocated a.form → IsFound (soundness fits) v → Right Made (assign_node t at (Some a) (Some v))

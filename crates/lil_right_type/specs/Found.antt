@@ -118,11 +118,10 @@ abbrev pub IsKnown : Env → Found → Type 0
 IsKnown e a = IsFound (nothing e.types (seen e) e.withs) a
 
 -- ---- parameters
--- one of which code is made: no open array, and by value one of a type that has a kind
+-- one of which code is made: no open array
 pub record ParameterTold (t : Table) (p : Parameter) : Type 0 where
   pub closed : p.open_array ≡ false
   pub lies : lies_at t p.sort ≡ true
-  pub single : p.by_place ≡ false → (j : RKind) × (kind_at t p.sort ≡ Some j)
 
 -- the type of a proper procedure with such parameters
 abbrev pub HeadingTold : Table → ℕ → Type 0

@@ -1,11 +1,11 @@
 -- What the code means that the generator of statements adds.
-use Rattle.std.specs.Prelude.{◌≡◌, ℕ, ◌+◌, ◌%◌, ◌≤◌, min, pos, negsuc, ◌≤ℤ◌, Bool, true, List, [], ◌∷◌, length, Option, Some, None}
+use Rattle.std.specs.Prelude.{◌≡◌, ℕ, ◌+◌, ◌%◌, ◌≤◌, min, pos, negsuc, ◌≤ℤ◌, Bool, true, List, [], ◌∷◌, length, map, Option, Some, None}
 use Rattle.std.specs.Option.{is_some, option_map}
 use Rattle.lil_base.specs.Words.{word_of}
-use Rattle.lil_resolved.specs.{declared.resolved.{RArgument.RArgument, RStmt.RStmt, RGuard.RGuard, RArm.RArm, RLabel.RLabel}, Kinds.{Kind, is_there, shape_at}, Resolved.{Designator, Expression, Argument, Label, Statement, Statements, shape_of}, Views.{argument_of, statement_of, guard_of, statements_of, label_of, shapes_of}, Sizes.{argument_words, argument_strings, body_strings, statement_words, body_words}}
-use Rattle.lil_resolved.specs.Sound.{IsSoundPlace, IsSoundTarget, IsSoundStored, IsSoundArgument, IsSingle, IsSoundStatement, IsSoundBody}
+use Rattle.lil_resolved.specs.{declared.resolved.{RArgument.RArgument, RStmt.RStmt, RGuard.RGuard, RArm.RArm, RLabel.RLabel}, Kinds.{Kind, words, is_there, shape_at}, Resolved.{Designator, Expression, Argument, OfAll, Label, Statement, Statements, shape_of}, Views.{argument_of, statement_of, guard_of, statements_of, label_of, shapes_of}, Sizes.{argument_words, argument_strings, body_strings, statement_words, body_words}}
+use Rattle.lil_resolved.specs.Sound.{IsSoundPlace, IsSoundTarget, IsSoundStored, IsSoundArgument, AreSoundArguments, IsSingle, AreSingle, parameter_of, IsSoundStatement, IsSoundBody}
 use Rattle.lil_asm.specs.declared.instr.Instr.TheVariants.{Jmp, Trp}
-use Rattle.lil_table.specs.Rows.{IsAt, InstrsAt, Access, access_of, address_code, ready_code, readied, PlaceAt, ValueRow, TargetRow, ArgumentAt, PushedRow, LeaveRow, AlignAt, StatementAt, BodyAt, loop_place}
+use Rattle.lil_table.specs.Rows.{IsAt, InstrsAt, Access, access_of, address_code, ready_code, readied, PlaceAt, ValueRow, TargetRow, ArgumentAt, PushedRow, GivenAt, given_words, LeaveRow, AlignAt, StatementAt, BodyAt, loop_place}
 use Rattle.lil_labels.specs.Drafts.{Final, Meaning, Each, EntryAt, ChoiceAt}
 
 -- a sound value that is stored at a place of a kind has its code and its test, where up to 3 words of others stand below its own
@@ -20,9 +20,28 @@ Argued a x p q = (n : ℕ) → IsSoundArgument x.layout.scope a → n + argument
 abbrev pub ArgumentPart : RArgument → Meaning
 ArgumentPart g x p q = Argued (argument_of g) x p q
 
--- one of those of a call: each of one word, which goes to the frame
-abbrev pub PushedPart : RArgument → Meaning
-PushedPart g x p q = IsSoundArgument x.layout.scope (argument_of g) → IsSingle (argument_of g) → PushedRow x.code (ArgumentAt x.layout x.code 0 (argument_of g)) p q
+-- one of those of a call, which takes so many words in the frame
+pub record PushedAt (w : ℕ) (a : Argument) (x : Final) (p q : ℕ) : Type 0 where
+  pub row : PushedRow x.layout x.code a p q
+  pub words : w ≡ words (parameter_of x.layout.scope a)
+
+abbrev pub Pushed : ℕ → Argument → Meaning
+Pushed w a x p q = IsSoundArgument x.layout.scope a → IsSingle a → PushedAt w a x p q
+
+abbrev pub PushedPart : ℕ → RArgument → Meaning
+PushedPart w g x p q = Pushed w (argument_of g) x p q
+
+-- all that lies at a place
+abbrev pub Blocked : ℕ → Designator → Meaning
+Blocked w d x p q = Pushed w (OfAll d) x p q
+
+-- all of those of a call, and the words that they take there, up to 65,535
+pub record GivenAll (w : ℕ) (given : List Argument) (x : Final) (p q : ℕ) : Type 0 where
+  pub row : GivenAt x.layout x.code given p q
+  pub words : w ≡ min 65535 (given_words x.layout.scope given)
+
+abbrev pub GivenPart : ℕ → List RArgument → Meaning
+GivenPart w given x p q = AreSoundArguments x.layout.scope (map argument_of given) → AreSingle (map argument_of given) → GivenAll w (map argument_of given) x p q
 
 abbrev pub argument_part : RArgument → List ℕ
 argument_part g = argument_strings (argument_of g)

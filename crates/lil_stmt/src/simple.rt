@@ -1,12 +1,12 @@
 //! The code of statements without statements in them.
 
-ghost use Rattle.std.specs.{Prelude.{◌≡◌, ℕ, Option, map, OnOk}, List.flat_map};
+ghost use Rattle.std.specs.{Prelude.{◌≡◌, ℕ, Option, map, IfOk, OnOk}, List.flat_map};
 ghost use Rattle.lil_resolved.specs.Resolved as resolved;
 ghost use Rattle.lil_resolved.specs.{Resolved.{Assign, Copy, Change, Member, New, Allocate, Exit, Call}, Views.{kind_view, place_of, is_down, is_out, is_back, argument_of, expression_of}, Sizes.{words_of, argument_strings, arguments_strings}};
 ghost use Rattle.lil_asm.specs.Bytes.{Sayable};
 ghost use Rattle.lil_table.specs.Rows.{member_code, allocate_code};
 ghost use Rattle.lil_labels.specs.Drafts.{DoingAll, Each, Adds, Emits};
-ghost use Rattle.lil_stmt.specs.Generating.{Stated, Stored, Argued, ArgumentPart, PushedPart, argument_part};
+ghost use Rattle.lil_stmt.specs.Generating.{Stated, Stored, Argued, ArgumentPart, PushedPart, GivenPart, Blocked, argument_part};
 
 use crate::kinds::{change_instr, counted_base};
 use crate::statements::Around;
@@ -201,7 +201,7 @@ fn emit_argument(code: &mut CodeBuffer<'_>, argument: &RArgument) -> Result<(), 
 {
     match argument {
         RArgument::Value(kind, value) => emit_value(code, value, *kind),
-        RArgument::Place(place) => {
+        RArgument::Place(place) | RArgument::All(place) => {
             emit_address_of(code, place)?;
             Ok(())
         }
@@ -239,24 +239,42 @@ pub(crate) fn emit_call(
     ensures { OnOk result ((n : ℕ) (exit : Option ℕ) → Adds (arguments_strings (map argument_of given.now)) code.old code.new (Stated n exit (Call procedure levels (map argument_of given.now)))) }
 {
     code.put(Instr::Mrk(levels))?;
-    emit_given(code, given)?;
-    code.put(Instr::Cll(procedure, given.len().min(65_535) as u16))
+    let words = emit_given(code, given)?;
+    code.put(Instr::Cll(procedure, words))
 }
 
-/// Appends the code of the arguments of a call, each of one word.
-fn emit_given(code: &mut CodeBuffer<'_>, given: &[RArgument]) -> Result<(), Memory>
-    ensures { OnOk result (Adds (flat_map argument_part given.now) code.old code.new (Each PushedPart given.now)) }
+/// Appends the code of the arguments of a call, and says how many words they take in the frame that it begins, up to 65,535.
+fn emit_given(code: &mut CodeBuffer<'_>, given: &[RArgument]) -> Result<u16, Memory>
+    ensures { IfOk result (λ words. Adds (flat_map argument_part given.now) code.old code.new (GivenPart words given.now)) }
 {
+    let mut words: u16 = 0;
     for argument in given {
-        emit_pushed(code, argument)?;
+        words = words.saturating_add(emit_pushed(code, argument)?);
     }
-    Ok(())
+    Ok(words)
 }
 
-/// Appends the code of an argument, whose word goes from the expression stack to the frame that a call begins.
-fn emit_pushed(code: &mut CodeBuffer<'_>, argument: &RArgument) -> Result<(), Memory>
-    ensures { OnOk result (Adds (argument_part argument.now) code.old code.new (PushedPart argument.now)) }
+/// Appends the code of an argument, whose word goes from the expression stack to the frame that a call begins, or all that lies
+/// at a place, and says how many words it takes there.
+fn emit_pushed(code: &mut CodeBuffer<'_>, argument: &RArgument) -> Result<u16, Memory>
+    ensures { IfOk result (λ words. Adds (argument_part argument.now) code.old code.new (PushedPart words argument.now)) }
 {
-    emit_argument(code, argument)?;
-    code.put(Instr::Psh)
+    match argument {
+        RArgument::All(place) => emit_block(code, place),
+        _ => {
+            emit_argument(code, argument)?;
+            code.put(Instr::Psh)?;
+            Ok(1)
+        }
+    }
+}
+
+/// Appends what brings all that lies at a place to the frame that a call begins, and says how many words it takes.
+fn emit_block(code: &mut CodeBuffer<'_>, place: &RPlace) -> Result<u16, Memory>
+    ensures { IfOk result (λ words. Emits code.old code.new (Blocked words (place_of place.now))) }
+{
+    let shape = emit_address_of(code, place)?;
+    let words = code.words(shape);
+    code.put(Instr::Psm(words))?;
+    Ok(words)
 }

@@ -3,11 +3,11 @@ use Rattle.std.proofs.Common.{◌≡◌, ℕ, zero, suc, ◌+◌, ◌*◌, ◌�
 use Rattle.lil_base.specs.{Words.{Whole, Cardinal, Integer, word_of}, declared.operator.{OneOp.OneOp, TwoOp.{TwoOp, TheVariants.{Equal, Unequal, Less, AtMost, Greater, AtLeast, In, Plus, Minus, Times, Slash, Or, And}}}, Requests.request_number}
 use Rattle.lil_base.specs.declared.operator.OneOp.TheVariants as one
 use Rattle.lil_resolved.specs.Kinds.{Kind, OfWhole, OfCharacter, OfSet, OfPointer, base_of, compared_as, covers, shared, outside_turns, Shape, words, all_words, shape_at}
-use Rattle.lil_resolved.specs.Resolved.{Named, OfModule, OfLevel, Designator, Variable, Handed, Held, Field, Element, Follow, Function, Abs, Cap, Chr, Odd, Ord, Val, Expression, Constant, Taken, One, Two, Short, Apply, With, WithSpan, Argument, ByValue, OfPlace, OfArray, OfText, Label, Statement, Assign, Copy, Text, Change, Member, New, Allocate, Request, If, Case, While, Repeat, Loop, Exit, Halt, Return, Call, For, Inside, Statements, Empty, Then, Arms, NoElse, Else, Arm, Procedure, Resolved, kind_of, counted_as, shape_of}
+use Rattle.lil_resolved.specs.Resolved.{Named, OfModule, OfLevel, Designator, Variable, Handed, Held, Field, Element, Follow, Function, Abs, Cap, Chr, Odd, Ord, Val, Expression, Constant, Taken, One, Two, Short, Apply, With, WithSpan, Argument, ByValue, OfPlace, OfAll, OfArray, OfText, Label, Statement, Assign, Copy, Text, Change, Member, New, Allocate, Request, If, Case, While, Repeat, Loop, Exit, Halt, Return, Call, For, Inside, Statements, Empty, Then, Arms, NoElse, Else, Arm, Procedure, Resolved, kind_of, counted_as, shape_of}
 use Rattle.lil_resolved.specs.Sizes.{statement_words, body_words, arms_words, frame_words, argument_words, argument_size, pushed_size, handed_size, one_size, two_size, test_size, function_size, Form, Direct, Outward, variable_form, Exact, Beyond, field_form, form_of, address_size, load_size, ready_size, store_size, again_size, under_size, place_size, target_size, size, arguments_size, allocate_size, statement_size, body_size, arms_size, framed_size, procedures_size, code_size}
 use Rattle.lil_resolved.specs.Sound.{takes_two}
-use Rattle.lil_asm.specs.{declared.instr.Instr.{Instr, TheVariants.{Liw, Lag, Dup, Drp, Nlt, Llw, Slw, Swp, Rgc, Lsi, Spn, Mrk, Psh, Cll, Ent, Rtn, Jmp, Jpf, Cas, Fri, Frn, Trp, Alc, Svc}}, Bytes.bytes_of, Decoding.decoded_stands, Stretches.stretch}
-use Rattle.lil_table.specs.Rows.{Layout, arguments_words, framed, in_procedure, holding, ArgumentAt, GivenAt, IsAt, InstrsAt, one_code, whole_code, two_code, range_code, test_code, function_code, Access, InData, InFrame, access_at, OnTop, Behind, further, access_of, address_code, load_code, ready_code, readied, held, store_code, again_code, under_code, change_operator, change_code, member_code, allocate_code, short_code, loop_place, loop_sign, ValueRow, TargetRow, EntriesAt, AlignAt, PlaceAt, ExpressionAt, ArgumentsAt, StatementAt, BodyAt, ArmsAt, FramedRow, ProceduresAt, TranslatesBy}
+use Rattle.lil_asm.specs.{declared.instr.Instr.{Instr, TheVariants.{Liw, Lag, Dup, Drp, Nlt, Llw, Slw, Swp, Rgc, Lsi, Spn, Mrk, Psh, Psm, Cll, Ent, Rtn, Jmp, Jpf, Cas, Fri, Frn, Trp, Alc, Svc}}, Bytes.bytes_of, Decoding.decoded_stands, Stretches.stretch}
+use Rattle.lil_table.specs.Rows.{Layout, given_words, framed, in_procedure, holding, ArgumentAt, GivenAt, IsAt, InstrsAt, one_code, whole_code, two_code, range_code, test_code, function_code, Access, InData, InFrame, access_at, OnTop, Behind, further, access_of, address_code, load_code, ready_code, readied, held, store_code, again_code, under_code, change_operator, change_code, member_code, allocate_code, short_code, loop_place, loop_sign, ValueRow, TargetRow, EntriesAt, AlignAt, PlaceAt, ExpressionAt, ArgumentsAt, StatementAt, BodyAt, ArmsAt, FramedRow, ProceduresAt, TranslatesBy}
 
 -- the bytes of an instruction, and of several
 abbrev pub instr_size : Instr → ℕ
@@ -259,6 +259,7 @@ addressed_long l code d p found q h i =
 argument_long : (l : Layout) (code : List ℕ) (n : ℕ) (a : Argument) (p q : ℕ) → ArgumentAt l code n a p q → q ≡ p + argument_size a
 argument_long l code n (ByValue k e) p q h = value_long l code n e k p q h
 argument_long l code n (OfPlace d) p q h = addressed_long l code d p h.found q h.here h.address
+argument_long l code n (OfAll d) p q h = addressed_long l code d p h.found q h.here h.address
 argument_long l code n (OfArray d high) p q h = omega (arith, addressed_long l code d p h.found h.start h.here h.address, instr_long code h.start (Liw high) q h.by)
 argument_long l code n (OfText cs) p q h = omega (arith, instr_long code p (Lag h.offset) h.start h.address, instr_long code h.start _ q h.by)
 
@@ -271,6 +272,7 @@ given_long : (l : Layout) (code : List ℕ) (given : List Argument) (p q : ℕ) 
 given_long l code [] p q h = omega (arith, h)
 given_long l code (ByValue k e ∷ given) p q h = omega (arith, argument_long l code 0 (ByValue k e) p h.1.here.middle h.1.here.here, instr_long code h.1.here.middle Psh h.1.middle h.1.here.push, given_long l code given h.1.middle q h.1.then)
 given_long l code (OfPlace d ∷ given) p q h = omega (arith, argument_long l code 0 (OfPlace d) p h.1.here.middle h.1.here.here, instr_long code h.1.here.middle Psh h.1.middle h.1.here.push, given_long l code given h.1.middle q h.1.then)
+given_long l code (OfAll d ∷ given) p q h = omega (arith, argument_long l code 0 (OfAll d) p h.1.here.middle h.1.here.here, instr_long code h.1.here.middle (Psm (words (shape_of l.scope d))) h.1.middle h.1.here.push, given_long l code given h.1.middle q h.1.then)
 given_long l code (OfArray d high ∷ given) p q h = absurd h.0
 given_long l code (OfText cs ∷ given) p q h = absurd h.0
 
@@ -356,7 +358,7 @@ mutual
   statement_long l code n exit Halt p q h = instr_long code p (Trp 9) q h
   statement_long l code n exit Return p q h = instr_long code p Rtn q h
   statement_long l code n exit (Call x i given) p q h =
-      omega (arith, instr_long code p (Mrk i) h.start h.mark, given_long l code given h.start h.middle h.arguments, instr_long code h.middle (Cll x (framed (arguments_words given))) q h.call)
+      omega (arith, instr_long code p (Mrk i) h.start h.mark, given_long l code given h.start h.middle h.arguments, instr_long code h.middle (Cll x (framed (given_words l.scope given))) q h.call)
   statement_long l code n exit (For x k a b step body) p q h =
       let t = h.turns in
       let r = t.round in

@@ -5,10 +5,10 @@ use Rattle.lil_base.specs.{Words.{Whole, Cardinal, Integer, word_of}, declared.o
 use Rattle.lil_base.specs.declared.operator.OneOp.TheVariants as one
 use Rattle.lil_base.specs.declared.request.Request as request
 use Rattle.lil_resolved.specs.Kinds.{Objects, Workspaces, Kind, OfWhole, OfTruth, OfCharacter, OfSet, OfPointer, base_of, is_ordinal, is_set, is_plain, is_element, takes_value, stores_value, compared_as, covers, shared, outside_turns, least, numbers, Scalar, is_literal, scalar_word, Shape, Address, Word, Row, Scope, with_held, MayCall, parameters_of, parameters_at, locals_at, words, is_there, part_at, offset, all_words, offsets_from, shape_at, element_of, procedure_by}
-use Rattle.lil_resolved.specs.Resolved.{Named, OfModule, OfLevel, variable_at, Designator, Variable, Handed, Held, Field, Element, Follow, Function, Abs, Cap, Chr, Odd, Ord, Val, Expression, Constant, Taken, One, Two, Short, Apply, With, WithSpan, Argument, ByValue, OfPlace, OfArray, OfText, Label, Statement, Assign, Copy, Text, Change, Member, New, Allocate, Request, If, Case, While, Repeat, Loop, Exit, Halt, Return, Call, For, Inside, Statements, Empty, Then, Arms, NoElse, Else, Arm, Procedure, Resolved, scope_in, kind_of, right_kind, counted_as, shape_of}
-use Rattle.lil_resolved.specs.{Sizes.{place_depth, depth, frame_words, argument_words}, Sound.{takes_one, takes_two, takes_function, IsScalar, IsSoundLabel, IsStep, is_text, request_parameters, parameter_of, IsSingle}}
+use Rattle.lil_resolved.specs.Resolved.{Named, OfModule, OfLevel, variable_at, Designator, Variable, Handed, Held, Field, Element, Follow, Function, Abs, Cap, Chr, Odd, Ord, Val, Expression, Constant, Taken, One, Two, Short, Apply, With, WithSpan, Argument, ByValue, OfPlace, OfAll, OfArray, OfText, Label, Statement, Assign, Copy, Text, Change, Member, New, Allocate, Request, If, Case, While, Repeat, Loop, Exit, Halt, Return, Call, For, Inside, Statements, Empty, Then, Arms, NoElse, Else, Arm, Procedure, Resolved, scope_in, kind_of, right_kind, counted_as, shape_of}
+use Rattle.lil_resolved.specs.{Sizes.{place_depth, depth, frame_words, argument_words}, Sound.{AreServed, takes_one, takes_two, takes_function, IsScalar, IsSoundLabel, IsStep, is_text, request_parameters, parameter_of, IsSingle}}
 use Rattle.lil_asm.specs.declared.instr.Instr.{Instr}
-use Rattle.lil_asm.specs.declared.instr.Instr.TheVariants.{Liw, Dup, Drp, Llw, Slw, Lgw, Sgw, Lnw, Snw, Lal, Lan, Lag, Ldi, Sti, Ldf, Adf, Mov, Mvz, Nlt, Ixc, Swp, Rgc, Rgi, Cap, Adc, Sbc, Mlc, Dvc, Mdc, Adi, Sbi, Mli, Dvi, Mdi, Ngi, Abi, Uni, Dif, Its, Sym, Sin, Spn, Icl, Ecl, Sle, Not, Equ, Neq, Lsc, Lec, Lsi, Lei, Mrk, Psh, Cll, Ent, Rtn, Jmp, Jpf, Jan, Jor, Cas, Fri, Frn, Trp, Alc, Svc}
+use Rattle.lil_asm.specs.declared.instr.Instr.TheVariants.{Liw, Dup, Drp, Llw, Slw, Lgw, Sgw, Lnw, Snw, Lal, Lan, Lag, Ldi, Sti, Ldf, Adf, Mov, Mvz, Nlt, Ixc, Swp, Rgc, Rgi, Cap, Adc, Sbc, Mlc, Dvc, Mdc, Adi, Sbi, Mli, Dvi, Mdi, Ngi, Abi, Uni, Dif, Its, Sym, Sin, Spn, Icl, Ecl, Sle, Not, Equ, Neq, Lsc, Lec, Lsi, Lei, Mrk, Psh, Psm, Cll, Ent, Rtn, Jmp, Jpf, Jan, Jor, Cas, Fri, Frn, Trp, Alc, Svc}
 use Rattle.lil_asm.specs.{Bytes.{word_at, decoded}, Requests.request_words, Stretches.stretch}
 
 -- Where the variables of a module lie in its data frame, by their numbers; the shapes that names reach, and the words of the frame that
@@ -581,6 +581,7 @@ arguments_words (a ∷ given) = argument_words a + arguments_words given
 abbrev pub ArgumentAt : Layout → List ℕ → ℕ → Argument → Span
 ArgumentAt l code n (ByValue k e) p q = ValueRow l code n e k p q
 ArgumentAt l code n (OfPlace d) p q = AddressRow l code n d p q
+ArgumentAt l code n (OfAll d) p q = AddressRow l code n d p q
 ArgumentAt l code n (OfArray d high) p q = ArrayRow l code n d high p q
 ArgumentAt l code n (OfText cs) p q = StringRow l code n cs p q
 
@@ -597,6 +598,7 @@ ArgumentsAt l code n (a ∷ given) p q = ArgumentRow (ArgumentAt l code n a) (Ar
 pub record RequestRow (l : Layout) (code : List ℕ) (r : request.Request) (given : List Argument) (p q : ℕ) : Type 0 where
   pub middle : ℕ
   pub takes : request_parameters r ≡ map (parameter_of l.scope) given
+  pub served : AreServed given
   pub words : request_words r ≡ arguments_words given
   pub arguments : ArgumentsAt l code 0 given p middle
   pub by : IsAt code middle (Svc (request_number r)) q
@@ -700,16 +702,24 @@ pub record CaseRow (l : Layout) (code : List ℕ) (e : Expression) (arms : ℕ �
   pub choice : IsAt code choices (Cas (l.target count) (l.target other)) entries
   pub whole : q ≡ entries + 6 * count
 
--- a word that goes from the expression stack to the frame that a call begins
-pub record PushedRow (code : List ℕ) (argument : Span) (p q : ℕ) : Type 0 where
+-- what brings an argument from the expression stack to the frame that a call begins: its word, or all that lies at its address
+abbrev pub push_code : Scope → Argument → Instr
+push_code ts (OfAll d) = Psm (words (shape_of ts d))
+push_code ts a = Psh
+
+pub record PushedRow (l : Layout) (code : List ℕ) (a : Argument) (p q : ℕ) : Type 0 where
   pub middle : ℕ
-  pub here : argument p middle
-  pub push : IsAt code middle Psh q
+  pub here : ArgumentAt l code 0 a p middle
+  pub push : IsAt code middle (push_code l.scope a) q
 
 -- the arguments of a call, one behind another
 abbrev pub GivenAt : Layout → List ℕ → List Argument → Span
 GivenAt l code [] p q = p ≡ q
-GivenAt l code (a ∷ given) p q = IsSingle a × ArgumentRow (PushedRow code (ArgumentAt l code 0 a)) (GivenAt l code given) p q
+GivenAt l code (a ∷ given) p q = IsSingle a × ArgumentRow (PushedRow l code a) (GivenAt l code given) p q
+
+-- how many words they take there
+abbrev pub given_words : Scope → List Argument → ℕ
+given_words ts given = all_words (map (parameter_of ts) given)
 
 -- a mark, the arguments, and a call
 pub record CallRow (l : Layout) (code : List ℕ) (x n : ℕ) (given : List Argument) (p q : ℕ) : Type 0 where
@@ -719,7 +729,7 @@ pub record CallRow (l : Layout) (code : List ℕ) (x n : ℕ) (given : List Argu
   pub middle : ℕ
   pub mark : IsAt code p (Mrk n) start
   pub arguments : GivenAt l code given start middle
-  pub call : IsAt code middle (Cll x (framed (arguments_words given))) q
+  pub call : IsAt code middle (Cll x (framed (given_words l.scope given))) q
 
 -- the first word of a FOR or a WITH in the frame, where the variables and those around it take n words
 abbrev pub loop_place : ℕ → ℕ

@@ -7,5 +7,5 @@ use Rattle.lil_check_decl.proofs.headings.heading.Goals as goal
 
 pub returns : goal.returns
 returns c =
-    let more = c.has_more-more.ensures ∙ ap (λ (ps : List Parameter). has_more c.sections.new.env.types ps c.args.of.now.result) c.as_slice-2.ensures in
+    let more = c.has_more-more.ensures ∙ ap (λ (ps : List Parameter). has_more ps c.args.of.now.result) c.as_slice-2.ensures in
     IfOk-weaker c.named.result _ _ (λ o said. is_heading _ c.args.of.now c.has_more-more.result c.in_ok-block.block c.as_slice.result.now c.in_ok-block.ensures.number c.in_ok-block.ensures.more c.home_at-home.ensures c.as_slice.ensures c.in_ok-parameters.ensures more c.note.ensures c.in_ok-sort.ensures said) c.named.ensures
