@@ -1,8 +1,8 @@
 /* The programs of rate.sh for comparison: the same bytes of code (rate.h) on a plain interpreter in C, a switch over the first byte
-   of each instruction. It has the instructions of that code and tests what the machine tests: the expression stack, addresses,
-   numbers and places. Its first word is the program's name. It does one run, and prints how many instructions that did, the
-   nanoseconds of the processor that they took, and the bytes of the code. With a number from 1 to 255 behind that word the outer loop
-   has so many turns; with `words` it prints what the program made, word by word.
+   of each instruction. It has the instructions of that code and tests what the machine tests: the expression stack, the stack of
+   frames, addresses, numbers and places. Its first word is the program's name. It does one run, and prints how many instructions
+   that did, the nanoseconds of the processor that they took, and the bytes of the code. With a number from 1 to 255 behind that word
+   the outer loop has so many turns; with `words` it prints what the program made, word by word.
    Its first word may also be `took`. Then it runs the command that the other words are, without keys, and prints the nanoseconds of
    the processor that the command took from its start to its end, in the system too. Where that ends otherwise than with 0, so does
    this. */
@@ -20,22 +20,28 @@
 
 enum { BUDGET = 10000000 };
 
+/* the number of the only module */
+enum { MODULE = 1 };
+
 enum ending { WENT, ENDED, SPENT, TRAPPED, LIMITED, BAD };
 
-/* a program: its code, where in it the turns of the outer loop stand, how many words its variables have, and which of these hold
-   what it made: the first, and how many */
+/* a program: its code, where in it the turns of the outer loop stand, where its procedure begins, or 0 if it has none, how many
+   words its variables have, and which of these hold what it made: the first, and how many */
 struct program {
     const char *name;
     uint8_t *code;
-    uint32_t length, turns, variables, first, made;
+    uint32_t length, turns, entry, variables, first, made;
 };
 
 static const struct program programs[] = {
-    { "Sum", sum, sizeof sum, 8, 3, 2, 1 },
-    { "Range", range, sizeof range, 8, 3, 2, 1 },
-    { "Counting", counting, sizeof counting, 8, 10261, 261, 10000 },
-    { "Records", records, sizeof records, 8, 1208, 8, 1200 },
-    { "Nodes", nodes, sizeof nodes, 73, 5, 2, 1 },
+    { "Sum", sum, sizeof sum, 8, 0, 3, 2, 1 },
+    { "Range", range, sizeof range, 8, 0, 3, 2, 1 },
+    { "Counting", counting, sizeof counting, 8, 0, 10261, 261, 10000 },
+    { "Records", records, sizeof records, 8, 0, 1208, 8, 1200 },
+    { "Nodes", nodes, sizeof nodes, 73, 0, 5, 2, 1 },
+    { "Fibonacci", fibonacci, sizeof fibonacci, 8, 46, 2, 1, 1 },
+    { "Ackermann", ackermann, sizeof ackermann, 8, 76, 3, 2, 1 },
+    { "Quicksort", quicksort, sizeof quicksort, 8, 110, 4003, 3, 4000 },
 };
 
 struct machine {
@@ -44,7 +50,8 @@ struct machine {
     uint16_t store[65536];
     uint16_t stack[16];
     uint32_t words; /* on the expression stack */
-    uint32_t data, frame, top, limit;
+    uint32_t data, base, frame, top, limit;
+    uint32_t entries[2], procedures; /* the first is the body */
     uint32_t place;
     uint64_t steps;
 };
@@ -55,9 +62,13 @@ static void begin(struct machine *m, const struct program *p)
     m->code = p->code;
     m->length = p->length;
     m->data = 1;
-    m->frame = m->data + p->variables;
-    m->top = m->frame + 4;
+    m->base = m->data + p->variables;
+    m->frame = m->base;
+    m->top = m->base + 4;
     m->limit = 65535;
+    m->store[m->base + 3] = MODULE;
+    m->entries[1] = p->entry;
+    m->procedures = p->entry == 0 ? 1 : 2;
 }
 
 #define PART static inline __attribute__((always_inline))
@@ -236,20 +247,137 @@ PART uint32_t result(char operator, uint32_t x, uint32_t y)
 {
     switch (operator) {
     case '+': return x + y;
+    case '-': return x - y;
     case '*': return x * y;
+    case '/': return y == 0 ? UINT32_MAX : x / y;
     case '%': return y == 0 ? UINT32_MAX : x % y;
+    case '=': return x == y;
     case '#': return x != y;
+    case '_': return x <= y;
     default: return x < y;
     }
 }
 
-/* ADC, MLC, MDC, NEQ and LSC */
+/* ADC, SBC, MLC, DVC, MDC, EQU, NEQ, LSC and LEC */
 ROW joined(struct machine *m, char operator)
 {
     if (!has(m, 1, 2))
         return BAD;
     uint32_t r = result(operator, lower(m), upper(m));
     return r > 65535 ? TRAPPED : became(m, 1, 1, r);
+}
+
+/* whether the stack of frames has no room for so many words more */
+PART int is_full(const struct machine *m, uint32_t n)
+{
+    return m->top + n > m->limit;
+}
+
+/* SAV and RST */
+ROW save(struct machine *m)
+{
+    if (!has(m, 1, 0))
+        return BAD;
+    if (is_full(m, m->words + 1))
+        return LIMITED;
+    for (uint32_t k = 0; k < m->words; k++)
+        m->store[m->top++] = m->stack[k];
+    m->store[m->top++] = (uint16_t)m->words;
+    return went(m, 1, m->words);
+}
+
+ROW restore(struct machine *m)
+{
+    if (!has(m, 2, 0))
+        return BAD;
+    uint32_t n = m->code[m->place + 1], saved = m->store[m->top - 1];
+    if (m->words != n || saved + n > 16 || m->top < m->frame + 5 + saved)
+        return BAD;
+    m->top -= saved + 1;
+    for (uint32_t k = n; k > 0; k--)
+        m->stack[saved + k - 1] = m->stack[k - 1];
+    for (uint32_t k = 0; k < saved; k++)
+        m->stack[k] = m->store[m->top + k];
+    m->words += saved;
+    return went(m, 2, 0);
+}
+
+/* the frame of the procedure around one that is declared so many levels out, or 0 where that is one of the module */
+PART uint32_t around(const struct machine *m, uint32_t levels)
+{
+    if (levels == 0)
+        return 0;
+    uint32_t frame = m->frame;
+    for (; levels > 1; levels--)
+        frame = m->store[frame];
+    return frame;
+}
+
+/* MRK and PSH */
+ROW mark(struct machine *m)
+{
+    if (!has(m, 2, 0))
+        return BAD;
+    if (is_full(m, 4))
+        return LIMITED;
+    m->store[m->top] = (uint16_t)around(m, m->code[m->place + 1]);
+    m->store[m->top + 1] = 0;
+    m->store[m->top + 2] = 0;
+    m->store[m->top + 3] = 0;
+    m->top += 4;
+    return went(m, 2, 0);
+}
+
+ROW hand(struct machine *m)
+{
+    if (!has(m, 1, 1))
+        return BAD;
+    if (is_full(m, 1))
+        return LIMITED;
+    m->store[m->top++] = (uint16_t)upper(m);
+    return went(m, 1, 1);
+}
+
+/* CLL */
+ROW call(struct machine *m)
+{
+    if (!has(m, 4, 0))
+        return BAD;
+    uint32_t n = m->code[m->place + 1], w = word(m, 2);
+    if (m->words != 0 || m->top < m->frame + 8 + w || n >= m->procedures)
+        return BAD;
+    uint32_t to = m->top - w - 4;
+    m->store[to + 1] = (uint16_t)m->frame;
+    m->store[to + 2] = (uint16_t)(m->place + 4);
+    m->store[to + 3] = MODULE;
+    m->frame = to;
+    m->place = m->entries[n];
+    return WENT;
+}
+
+/* RTN */
+ROW leave(struct machine *m)
+{
+    if (m->frame == m->base)
+        return ENDED;
+    if (m->frame + 3 > 65535)
+        return BAD;
+    uint32_t to = m->store[m->frame + 1];
+    if (to < m->base || to + 4 > m->frame || m->store[m->frame + 3] != MODULE)
+        return BAD;
+    m->top = m->frame;
+    m->place = m->store[m->frame + 2];
+    m->frame = to;
+    return WENT;
+}
+
+/* TRP */
+ROW trap(struct machine *m)
+{
+    if (!has(m, 2, 0))
+        return BAD;
+    uint32_t k = m->code[m->place + 1];
+    return k < 7 || k > 9 ? BAD : TRAPPED;
 }
 
 /* ENT */
@@ -363,16 +491,26 @@ ROW row(struct machine *m)
     case 0x37: return element(m);
     case 0x39: return within(m);
     case 0x40: return joined(m, '+');
+    case 0x41: return joined(m, '-');
     case 0x42: return joined(m, '*');
+    case 0x43: return joined(m, '/');
     case 0x44: return joined(m, '%');
+    case 0x5a: return joined(m, '=');
     case 0x5b: return joined(m, '#');
     case 0x5c: return joined(m, '<');
+    case 0x5d: return joined(m, '_');
+    case 0x60: return save(m);
+    case 0x61: return mark(m);
+    case 0x63: return hand(m);
+    case 0x65: return call(m);
     case 0x68: return enter(m);
-    case 0x6a: return ENDED;
+    case 0x6a: return leave(m);
+    case 0x6b: return restore(m);
     case 0x70: return jump_always(m);
     case 0x71: return jump_false(m);
     case 0x77: return first_turn(m);
     case 0x78: return next_turn(m);
+    case 0x79: return trap(m);
     case 0x7a: return take(m);
     default: return BAD;
     }

@@ -2,7 +2,8 @@
 # How many instructions a second the built program does, beside an interpreter in C of the same code, in one run.
 # The programs of rate/ are run through `lilith once`: Sum, two nested FORs with one addition in the inner one; Range, the same where
 # the sum's variable is of a subrange and is tested at each store; Counting, which sorts numbers by counting them; Records, which
-# sorts records by exchanging neighbours; and Nodes, which walks along a list. Times are those of the processor, so that other work
+# sorts records by exchanging neighbours; Nodes, which walks along a list; Fibonacci and Ackermann, which are functions that call
+# themselves; and Quicksort, which sorts numbers by a procedure that does so. Times are those of the processor, so that other work
 # beside counts little: the least of as many runs as TURNS says, 25 where it says nothing. A program, one without statements and the
 # one in C (rate.c, with their bytes in rate.h), as gcc makes it at -O2 and at -O3, are run in turn, so that what slows the machine
 # meets all. The difference of the first two is what a program took, without the start. At the end stand the ratios of all programs.
@@ -35,7 +36,7 @@ text() {
     cat >>"$2.MOD"
     echo "END $2." >>"$2.MOD"
 }
-padded="s/^BEGIN/VAR more: CARDINAL; flag: BOOLEAN; BEGIN/"
+padded="s/^CONST/VAR more: CARDINAL; flag: BOOLEAN; CONST/"
 writing="s/^CONST/FROM InOut IMPORT WriteCard, WriteLn; CONST/"
 
 # Runs a program, which ends with this status and this report
@@ -98,6 +99,8 @@ shown() {
             echo "; FOR i := 0 TO 299 DO WITH items[i] DO WriteCard(number, 1); WriteLn; WriteCard(key, 1); WriteLn;"
             echo "WriteCard(ORD(letter), 1); WriteLn; WriteCard(ORD(odd), 1); WriteLn END END"
             ;;
+        Fibonacci | Ackermann) echo "; WriteCard(value, 1); WriteLn" ;;
+        Quicksort) echo "; FOR i := 1 TO 4000 DO WriteCard(numbers[i], 1); WriteLn END" ;;
         *) echo "; WriteCard(sum, 1); WriteLn" ;;
     esac
 }
@@ -167,7 +170,7 @@ measured() {
     if command -v valgrind >/dev/null; then hosted "$1"; fi
 }
 
-for name in Sum Range Counting Records Nodes; do
+for name in Sum Range Counting Records Nodes Fibonacci Ackermann Quicksort; do
     measured "$name"
 done
 printf '%-9s %8s %8s\n' ratio "C -O2" "C -O3"

@@ -1,73 +1,81 @@
 MODULE Calculator;
-(* Works out a sum by recursive descent: each rule of its grammar is a procedure.
+(* Works out a sum by recursive descent: each rule of its grammar is a function.
 
      sum     = product { ("+" | "-") product } .
      product = factor { ("*" | "/") factor } .
      factor  = digit { digit } | "(" sum ")" .
 
-   A procedure reads its part of the text from at on, and leaves its value on
-   the stack. So factor may call sum, inside of which it stands. *)
+   A function reads its part of the text from at on, and returns its value. So
+   factor may call sum, inside of which it stands. *)
 FROM InOut IMPORT WriteString, WriteInt, WriteLn;
 VAR
   text: ARRAY [0..39] OF CHAR;
-  at, top: CARDINAL;
-  stack: ARRAY [1..20] OF INTEGER;
+  at: CARDINAL;
 
-PROCEDURE sum;
+(* Whether this character is next, which is then read. *)
+PROCEDURE Took(character: CHAR): BOOLEAN;
+BEGIN
+  IF text[at] # character THEN RETURN FALSE END;
+  INC(at);
+  RETURN TRUE
+END Took;
 
-  PROCEDURE product;
+PROCEDURE Sum(): INTEGER;
+VAR sum: INTEGER;
 
-    PROCEDURE factor;
+  PROCEDURE Product(): INTEGER;
+  VAR product: INTEGER;
+
+    PROCEDURE Factor(): INTEGER;
+    VAR factor: INTEGER;
     BEGIN
-      IF text[at] = "(" THEN
-        INC(at); sum; INC(at)
-      ELSE
-        INC(top); stack[top] := 0;
-        WHILE (text[at] >= "0") AND (text[at] <= "9") DO
-          stack[top] := 10 * stack[top] + VAL(INTEGER, ORD(text[at]) - ORD("0"));
-          INC(at)
-        END
-      END
-    END factor;
+      IF Took("(") THEN
+        factor := Sum();
+        IF Took(")") THEN RETURN factor END;
+        HALT
+      END;
+      factor := 0;
+      WHILE (text[at] >= "0") AND (text[at] <= "9") DO
+        factor := 10 * factor + VAL(INTEGER, ORD(text[at]) - ORD("0"));
+        INC(at)
+      END;
+      RETURN factor
+    END Factor;
 
   BEGIN
-    factor;
+    product := Factor();
     LOOP
-      IF text[at] = "*" THEN
-        INC(at); factor;
-        DEC(top); stack[top] := stack[top] * stack[top + 1]
-      ELSIF text[at] = "/" THEN
-        INC(at); factor;
-        DEC(top); stack[top] := stack[top] DIV stack[top + 1]
+      IF Took("*") THEN
+        product := product * Factor()
+      ELSIF Took("/") THEN
+        product := product DIV Factor()
       ELSE
-        EXIT
+        RETURN product
       END
     END
-  END product;
+  END Product;
 
 BEGIN
-  product;
+  sum := Product();
   LOOP
-    IF text[at] = "+" THEN
-      INC(at); product;
-      DEC(top); stack[top] := stack[top] + stack[top + 1]
-    ELSIF text[at] = "-" THEN
-      INC(at); product;
-      DEC(top); stack[top] := stack[top] - stack[top + 1]
+    IF Took("+") THEN
+      sum := sum + Product()
+    ELSIF Took("-") THEN
+      sum := sum - Product()
     ELSE
-      EXIT
+      RETURN sum
     END
   END
-END sum;
+END Sum;
 
-PROCEDURE show;
+PROCEDURE Show;
 BEGIN
-  at := 0; top := 0; sum;
-  WriteString(text); WriteString(" = "); WriteInt(stack[1], 1); WriteLn
-END show;
+  at := 0;
+  WriteString(text); WriteString(" = "); WriteInt(Sum(), 1); WriteLn
+END Show;
 
 BEGIN
-  text := "2*(3+4)-18/(5-2)"; show;
-  text := "((1+2)*(3+4)-1)*100"; show;
-  text := "7-(8-(9-(10-11)))"; show
+  text := "2*(3+4)-18/(5-2)"; Show;
+  text := "((1+2)*(3+4)-1)*100"; Show;
+  text := "7-(8-(9-(10-11)))"; Show
 END Calculator.

@@ -70,8 +70,8 @@ module _ (t : Table) (p : Place) (v : Invoked) where
       said_at (heading_node t p wanted v.sort (length xs)) (passed_if t p v xs) false (subst (λ n. Said (heading_node t p wanted v.sort n) r b s) e h) i (said_pure None s)
 
   pub is_value_call : (xs : List Argument) {s : Option Passed} {o : Option Found} {r u : Option Fault} (sort : Option ℕ)
-      → Said (routine_mean t p true v xs) r s u → sort ≡ result t v.sort → o ≡ call_found p sort s → Said (routine_value t p v xs) r o u
-  is_value_call xs {s = s} sort h i e = said_to (said_map (call_found p (result t v.sort)) h) (e ∙ ap (λ sort. call_found p sort s) i)
+      → Said (routine_mean t p true v xs) r s u → sort ≡ result t v.sort → o ≡ call_found t p v.target sort s → Said (routine_value t p v xs) r o u
+  is_value_call xs {s = s} sort h i e = said_to (said_map (call_found t p v.target (result t v.sort)) h) (e ∙ ap (λ sort. call_found t p v.target sort s) i)
 
   pub is_statement_call : (xs : List Argument) {s : Option Passed} {o : Option RStmt} {r u : Option Fault}
       → Said (routine_mean t p false v xs) r s u → o ≡ call_statement v s → Said (routine_statement t p v xs) r o u

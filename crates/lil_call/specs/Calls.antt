@@ -3,13 +3,14 @@ use Rattle.std.specs.Prelude.{ℕ, ◌+◌, ◌==◌, nat_lt, Bool, true, false,
 use Rattle.lil_base.specs.declared.fault.{Place.Place, FaultKind.TheVariants.{ArgCount, NotCallable, ExprDeep}}
 use Rattle.lil_types.specs.Types.{Table}
 use Rattle.lil_declared.specs.declared.standard.Resident.{Resident}
-use Rattle.lil_resolved.specs.declared.resolved.{RArgument.RArgument, RStmt.RStmt}
+use Rattle.lil_resolved.specs.declared.resolved.{RArgument.RArgument, RExpr.RExpr, RKind.RKind, RStmt.RStmt}
+use Rattle.lil_resolved.specs.declared.resolved.RExpr.TheVariants as e
 use Rattle.lil_report.specs.Told.{Row, row, after}
 use Rattle.lil_scope.specs.declared.thing.Kind.TheVariants as kind
 use Rattle.lil_kinds.specs.{Forms.{is_routine, arity, result}, declared.found.Found.Found}
-use Rattle.lil_kinds.specs.declared.found.Form.TheVariants as form
 use Rattle.lil_kinds.specs.declared.found.Standing.TheVariants as standing
-use Rattle.lil_forms.specs.{Statements.called}
+use Rattle.lil_shapes.specs.Bases.{kind_at}
+use Rattle.lil_forms.specs.{Statements.called, Values.value_form}
 use Rattle.lil_call.specs.{declared.{call.{Callee.Callee, Argument.Argument}, passing.Passed.Passed, routines.{Invoked.Invoked, Target.Target}}, Passing.{all_have_values, nothing_passed, arguments_mean}, Procedures.{agrees, function_mean, procedure_mean}}
 use Rattle.lil_call.specs.declared.call.Callee.TheVariants as callee
 use Rattle.lil_call.specs.declared.routines.Target.TheVariants as target
@@ -48,16 +49,28 @@ passed_if t p v xs true = after (arguments_mean t (is_resident v.target) v.sort 
 abbrev pub routine_mean : Table → Place → Bool → Invoked → List Argument → Option Passed × List Row
 routine_mean t p wanted v xs = after (heading_node t p wanted v.sort (length xs)) (passed_if t p v xs)
 
--- no code is made of a call that gives a value
-abbrev pub call_found : Place → Option ℕ → Option Passed → Option Found
-call_found p None s = None
-call_found p (Some sort) None = None
-call_found p (Some sort) (Some s) = Some (record { form = form.Nothing; kind = kind.Of sort; first = p; depth = s.depth; standing = standing.Value })
+-- a function of the module, by its number, how many procedures out it is declared and the kind of what it returns; the code has its number
+-- from 1, and both numbers as bytes
+abbrev pub own_value : ℕ → ℕ → Option RKind → Option (List RArgument) → Option RExpr
+own_value n levels None h = None
+own_value n levels (Some j) None = None
+own_value n levels (Some j) (Some xs) = if nat_lt n 255 && nat_lt levels 256 then Some (e.Invoke (n + 1) levels j xs) else None
+
+-- resident procedures return nothing, and no code is made of a call of a variable's value
+abbrev pub value_by : Target → Option RKind → Option (List RArgument) → Option RExpr
+value_by (target.Resident r) k h = None
+value_by (target.Own n levels) k h = own_value n levels k h
+value_by target.Value k h = None
+
+abbrev pub call_found : Table → Place → Target → Option ℕ → Option Passed → Option Found
+call_found t p of None s = None
+call_found t p of (Some sort) None = None
+call_found t p of (Some sort) (Some s) = Some (record { form = value_form (value_by of (kind_at t sort) s.handed); kind = kind.Of sort; first = p; depth = s.depth; standing = standing.Value })
 
 abbrev pub routine_value : Table → Place → Invoked → List Argument → Option Found × List Row
-routine_value t p v xs = after (routine_mean t p true v xs) (λ s. (call_found p (result t v.sort) s, []))
+routine_value t p v xs = after (routine_mean t p true v xs) (λ s. (call_found t p v.target (result t v.sort) s, []))
 
--- a procedure of the module, by its number, and how many procedures out it is declared; the code has its number from 1, and both as bytes
+-- a proper procedure of the module, likewise
 abbrev pub own_call : ℕ → ℕ → Option (List RArgument) → Option RStmt
 own_call n levels None = None
 own_call n levels (Some xs) = if nat_lt n 255 && nat_lt levels 256 then Some (statement.Call (n + 1) levels xs) else None

@@ -7,11 +7,12 @@ use crate::functions::agrees;
 use crate::passing::{Passed, nothing_passed, pass_all};
 use lil_base::{FaultKind, Items, Memory, Place};
 use lil_declared::Resident;
-use lil_forms::called;
-use lil_kinds::{Form, Found, Standing, arity, is_routine, result};
+use lil_forms::{called, value_form};
+use lil_kinds::{Found, Standing, arity, is_routine, result};
 use lil_report::Report;
-use lil_resolved::{RArgument, RStmt};
+use lil_resolved::{RArgument, RExpr, RKind, RStmt};
 use lil_scope::Kind;
+use lil_shapes::kind_at;
 use lil_types::{TypeId, TypeTable};
 use std::alloc::Global;
 
@@ -100,25 +101,67 @@ fn routine(
     }
 }
 
-/// A call that gives a value, of which no code is made.
-fn call_found(first: Place, sort: Option<TypeId>, s: Option<Passed>) -> Option<Found>
-    ensures { result ≡ spec.call_found first sort s }
+/// The value of a function of the module, whose number from 1 and levels are bytes, where its arguments have code.
+fn own_value(
+    number: usize,
+    levels: usize,
+    kind: Option<RKind>,
+    given: Option<Items<RArgument>>,
+) -> Option<RExpr>
+    ensures { result ≡ spec.own_value number levels kind given }
 {
-    let Some(s) = s else {
+    let (Some(kind), Some(given)) = (kind, given) else {
         return None;
     };
-    let depth = s.depth;
-    drop(s);
-    match sort {
-        None => None,
-        Some(sort) => Some(Found {
-            form: Form::Nothing,
-            kind: Kind::Of(sort),
-            first,
-            depth,
-            standing: Standing::Value,
-        }),
+    if number < 255 && levels < 256 {
+        Some(RExpr::Invoke((number + 1) as u8, levels as u8, kind, given))
+    } else {
+        drop(given);
+        None
     }
+}
+
+/// What a call returns. Resident procedures return nothing, and no code is made of a call of a variable's value.
+fn value_by(target: Target, kind: Option<RKind>, handed: Option<Items<RArgument>>) -> Option<RExpr>
+    ensures { result ≡ spec.value_by target kind handed }
+{
+    match target {
+        Target::Own(number, levels) => own_value(number, levels, kind, handed),
+        Target::Resident(_) | Target::Value => {
+            drop(handed);
+            None
+        }
+    }
+}
+
+/// A call that gives a value.
+fn call_found(
+    t: &TypeTable,
+    first: Place,
+    target: Target,
+    sort: Option<TypeId>,
+    s: Option<Passed>,
+) -> Option<Found>
+    ensures { result ≡ spec.call_found t.now first target sort s }
+{
+    let (Some(sort), Some(s)) = (sort, s) else {
+        return None;
+    };
+    let Passed {
+        parameters,
+        handed,
+        depth,
+        ..
+    } = s;
+    drop(parameters);
+    let kind = kind_at(t, sort);
+    Some(Found {
+        form: value_form(value_by(target, kind, handed)),
+        kind: Kind::Of(sort),
+        first,
+        depth,
+        standing: Standing::Value,
+    })
 }
 
 /// A call of a procedure in an expression.
@@ -134,7 +177,7 @@ pub(crate) fn value_call(
 {
     let s = routine(alloc, t, report, first, true, v, arguments)?;
     let sort = result(t, v.sort);
-    Ok(call_found(first, sort, s))
+    Ok(call_found(t, first, v.target, sort, s))
 }
 
 /// A call of one of the module's procedures, whose number from 1 and levels are bytes, where its arguments have code.

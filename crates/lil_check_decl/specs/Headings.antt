@@ -1,5 +1,5 @@
 -- Variables and parameters, and the headings of procedures.
-use Rattle.std.specs.Prelude.{ℕ, ◌+◌, nat_le, length, is_some, not, ◌&&◌, ◌||◌, Bool, true, false, List, [], ◌∷◌, ◌++◌, Option, Some, None}
+use Rattle.std.specs.Prelude.{ℕ, ◌+◌, nat_le, length, Bool, true, false, List, [], ◌∷◌, ◌++◌, Option, Some, None}
 use Rattle.std.specs.List.{list_any}
 use Rattle.lil_base.specs.declared.fault.FaultKind.TheVariants.{TooManyProcs}
 use Rattle.lil_text.specs.declared.tree.{Ident.Ident, Qualident.Qualident}
@@ -90,9 +90,9 @@ heading_type q h = after (result_means q.0 h.result) (λ n. form_node q.0 h.plac
 abbrev pub is_open : Parameter → Bool
 is_open p = p.open_array
 
--- 90 NotBuilt: it has an open array, or a result
-abbrev pub has_more : List Parameter → Option Qualident → Bool
-has_more ps r = list_any is_open ps || is_some r
+-- 90 NotBuilt: it has an open array
+abbrev pub any_open : List Parameter → Bool
+any_open ps = list_any is_open ps
 
 abbrev pub heading_means : Env → Heading → Env × List Row
-heading_means e h = after (sections_mean e h) (λ q. not_built (has_more q.1.list h.result) h.place (after (heading_type q h) (named_means (length e.scopes.blocks) h.name)))
+heading_means e h = after (sections_mean e h) (λ q. not_built (any_open q.1.list) h.place (after (heading_type q h) (named_means (length e.scopes.blocks) h.name)))

@@ -314,16 +314,9 @@ fn named(
 }
 
 fn any_open(parameters: &[Parameter]) -> bool
-    ensures { result ≡ list_any spec.is_open parameters.now }
+    ensures { result ≡ spec.any_open parameters.now }
 {
     parameters.iter().any(|one| one.open_array)
-}
-
-/// Whether a heading has what isn't built: an open array, or a result.
-fn has_more(parameters: &[Parameter], of: &Heading) -> bool
-    ensures { result ≡ spec.has_more parameters.now of.now.result }
-{
-    any_open(parameters) || of.result.is_some()
 }
 
 /// The heading of a procedure.
@@ -339,8 +332,8 @@ pub fn heading(
     let block = begin(alloc, env)?;
     let home = home_at(env, block);
     let parameters = sections(alloc, env, report, home, of.sections.as_slice())?;
-    let more = has_more(parameters.list.as_slice(), of);
-    report.note(more, of.place, FaultKind::NotBuilt);
+    let open = any_open(parameters.list.as_slice());
+    report.note(open, of.place, FaultKind::NotBuilt);
     let sort = heading_type(env, report, parameters, of)?;
     named(alloc, env, report, block, &of.name, sort)
 }

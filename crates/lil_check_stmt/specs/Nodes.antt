@@ -2,7 +2,8 @@
 use Rattle.std.specs.Prelude.{ℕ, ◌==◌, Bool, true, false, not, is_some, List, [], ◌∷◌, Option, Some, None}
 use Rattle.lil_base.specs.declared.fault.{Place.Place, FaultKind.TheVariants.{Operands, Assign, NotRecord, ExitOutside, ReturnKind, ConstRange}}
 use Rattle.lil_types.specs.Types.{Table, boolean, base}
-use Rattle.lil_resolved.specs.declared.resolved.{RExpr.RExpr, RStmt.RStmt}
+use Rattle.lil_resolved.specs.declared.resolved.{RExpr.RExpr, RKind.RKind, RStmt.RStmt}
+use Rattle.lil_shapes.specs.Bases.{kind_at}
 use Rattle.lil_resolved.specs.declared.resolved.RStmt.TheVariants as rs
 use Rattle.lil_report.specs.Told.{Row, row}
 use Rattle.lil_scope.specs.declared.thing.Kind.{Kind}
@@ -85,7 +86,16 @@ return_tests t p (Some s) v =
     ∷ row (misses t s v.kind) v.first ConstRange
     ∷ []
 
--- a value that is returned has no code
+-- a value goes over as one of the result's kind
+abbrev pub answer : Option RKind → Option RExpr → Option RStmt
+answer (Some j) (Some x) = Some (rs.Answer j x)
+answer (Some j) None = None
+answer None x = None
+
+abbrev pub answered : Table → Option ℕ → Found → Option RStmt
+answered t None v = None
+answered t (Some s) v = answer (kind_at t s) (typed t s v)
+
 unfoldable pub return_node : Table → Place → Option ℕ → Option Found → Option RStmt × List Row
-return_node t p result (Some v) = (None, return_tests t p result v)
+return_node t p result (Some v) = (answered t result v, return_tests t p result v)
 return_node t p result None = (None, [])

@@ -6,8 +6,9 @@ use lil_base::{FaultKind, Place};
 use lil_forms::{assigned, located_in, typed};
 use lil_kinds::{Form, Found, Located, assignable, is_ordinal, is_record, misses};
 use lil_report::Report;
-use lil_resolved::{RExpr, RStmt};
+use lil_resolved::{RExpr, RKind, RStmt};
 use lil_scope::Kind;
+use lil_shapes::kind_at;
 use lil_types::{BOOLEAN, TypeId, TypeTable, base};
 
 /// Whether a variable of this kind takes a value: an open array as a whole takes none.
@@ -185,7 +186,16 @@ pub(crate) fn return_alone(
     Some(RStmt::Return)
 }
 
-/// A RETURN with a value, which has no code.
+fn answer(kind: Option<RKind>, value: Option<RExpr>) -> Option<RStmt>
+    ensures { result ≡ spec.answer kind value }
+{
+    let (Some(kind), Some(value)) = (kind, value) else {
+        return None;
+    };
+    Some(RStmt::Answer(kind, value))
+}
+
+/// A RETURN with a value.
 #[tactic(auto, unfolding(crate::specs::Nodes::return_node, lil_report::specs::Told::tell))]
 pub(crate) fn return_value(
     t: &TypeTable,
@@ -203,8 +213,7 @@ pub(crate) fn return_value(
                 let outside = misses(t, sort, value.kind);
                 report.note(unlike, at, FaultKind::Assign);
                 report.note(outside, value.first, FaultKind::ConstRange);
-                drop(value);
-                None
+                answer(kind_at(t, sort), typed(t, sort, value))
             }
             None => {
                 drop(value);

@@ -2,6 +2,7 @@
 use Rattle.std.proofs.Common.{◌≡◌, ℕ, zero, suc, ◌+◌, ◌<◌, ◌≤◌, Bool, true, false, List, [], ◌∷◌, ◌++◌, length, map, take, drop, get_or, Option, Some, None, refl, sym, ap, subst, ◌∙◌, arith, append_assoc, append-nil}
 use Rattle.std.specs.{Prelude.{◌&&◌, nat_lt}, Option.option_map, List.All}
 use Rattle.std.proofs.lemmas.{Bool.Decides.nat_tests, List.{take_more, Elements.All-push}}
+use Rattle.lil_types.specs.Types.{Table}
 use Rattle.lil_declared.specs.declared.declared.RProc.{RProc}
 use Rattle.lil_resolved.specs.{declared.{resolved.{RProcedure.RProcedure, RStmt.RStmt}, shapes.RShape.RShape}, Kinds.Shape, Resolved.Procedure, Views.{heading_of, procedure_of, IsMeasuredHeading}}
 use Rattle.lil_forms.specs.Scopes.{both_left, both_right}
@@ -38,14 +39,14 @@ no_byte (y ∷ ys) zero x inside is high = let none : nat_lt y 255 ≡ false = g
 no_byte (y ∷ ys) (suc i) x inside is high = ap (λ (c : Bool). nat_lt y 255 && c) (no_byte ys i x (omega (arith, inside)) is high) ∙ and_none (nat_lt y 255)
 
 -- ---- procedures: those that are made, and what is left from a number on, by the shapes of their variables
-module _ (many : RProc → ℕ) (ts : List RShape) (locals : ℕ → Option (List Shape)) (of : List RProc) (bodies : Bodies) where
+module _ (t : Table) (ts : List RShape) (locals : ℕ → Option (List Shape)) (of : List RProc) (bodies : Bodies) where
   pub record IsSoFar (made : List RProcedure) (p : ℕ) (ds : List RProc) (left : Bodies) : Type 0 where
-    pub means : option_map (λ (rest : List Procedure). map (procedure_of ts) made ++ rest) (procedures_from many locals p ds left) ≡ procedures_from many locals 0 of bodies
+    pub means : option_map (λ (rest : List Procedure). map (procedure_of ts) made ++ rest) (procedures_from t locals p ds left) ≡ procedures_from t locals 0 of bodies
     pub kept : map body_of made ++ left ≡ bodies
     pub measured : All (IsMeasuredHeading ts) (map heading_of made)
 
   pub none_made : IsSoFar [] 0 of bodies
-  none_made = record { means = same (procedures_from many locals 0 of bodies); kept = refl; measured = λ k d less. absurd (omega (arith, less)) }
+  none_made = record { means = same (procedures_from t locals 0 of bodies); kept = refl; measured = λ k d less. absurd (omega (arith, less)) }
     where
       same : (o : Option (List Procedure)) → option_map (λ (rest : List Procedure). [] ++ rest) o ≡ o
       same None = refl
@@ -56,9 +57,9 @@ module _ (many : RProc → ℕ) (ts : List RShape) (locals : ℕ → Option (Lis
     behind o = option_map (λ (rest : List Procedure). map (procedure_of ts) made ++ rest) o
 
     pub one_made : (d : RProc) (ds : List RProc) (b : Option (List RStmt)) (left : Bodies) (p : RProcedure)
-        → Some (procedure_of ts p) ≡ made_of (many d) d (locals n) b → body_of p ≡ b → IsMeasuredHeading ts p.heading → IsSoFar made n (d ∷ ds) (b ∷ left) → IsSoFar (made ++ p ∷ []) (n + 1) ds left
+        → Some (procedure_of ts p) ≡ made_of t d (locals n) b → body_of p ≡ b → IsMeasuredHeading ts p.heading → IsSoFar made n (d ∷ ds) (b ∷ left) → IsSoFar (made ++ p ∷ []) (n + 1) ds left
     one_made d ds b left p is body measured h = subst (λ (k : ℕ). IsSoFar (made ++ p ∷ []) k ds left) next (record {
-      means = by (procedures_from many locals (suc n) ds left) ∙ ap (λ (o : Option Procedure). behind (and_procedure o (procedures_from many locals (suc n) ds left))) is ∙ h.means;
+      means = by (procedures_from t locals (suc n) ds left) ∙ ap (λ (o : Option Procedure). behind (and_procedure o (procedures_from t locals (suc n) ds left))) is ∙ h.means;
       kept = ap (λ (xs : Bodies). xs ++ left) (map_one body_of made p) ∙ append_assoc (map body_of made) (body_of p ∷ []) left ∙ ap (λ (o : Option (List RStmt)). map body_of made ++ o ∷ left) body ∙ h.kept;
       measured = subst (All (IsMeasuredHeading ts)) (sym (map_one heading_of made p)) (All-push (IsMeasuredHeading ts) (map heading_of made) p.heading h.measured measured);
     })
@@ -71,16 +72,16 @@ module _ (many : RProc → ℕ) (ts : List RShape) (locals : ℕ → Option (Lis
         by (Some ps) = ap Some (ap (λ (xs : List Procedure). xs ++ ps) (map_one (procedure_of ts) made p) ∙ append_assoc (map (procedure_of ts) made) (procedure_of ts p ∷ []) ps)
 
     -- one has no code
-    pub not_made : (d : RProc) (ds : List RProc) (b : Option (List RStmt)) (left : Bodies) → None ≡ made_of (many d) d (locals n) b → IsSoFar made n (d ∷ ds) (b ∷ left) → None ≡ procedures_from many locals 0 of bodies
-    not_made d ds b left is h = ap (λ (o : Option Procedure). behind (and_procedure o (procedures_from many locals (suc n) ds left))) is ∙ h.means
+    pub not_made : (d : RProc) (ds : List RProc) (b : Option (List RStmt)) (left : Bodies) → None ≡ made_of t d (locals n) b → IsSoFar made n (d ∷ ds) (b ∷ left) → None ≡ procedures_from t locals 0 of bodies
+    not_made d ds b left is h = ap (λ (o : Option Procedure). behind (and_procedure o (procedures_from t locals (suc n) ds left))) is ∙ h.means
 
-    pub no_body : (d : RProc) (ds : List RProc) → IsSoFar made n (d ∷ ds) [] → None ≡ procedures_from many locals 0 of bodies
+    pub no_body : (d : RProc) (ds : List RProc) → IsSoFar made n (d ∷ ds) [] → None ≡ procedures_from t locals 0 of bodies
     no_body d ds h = h.means
 
-    pub all_made : IsSoFar made n [] [] → (Some (map (procedure_of ts) made) ≡ procedures_from many locals 0 of bodies) × (map body_of made ≡ bodies)
+    pub all_made : IsSoFar made n [] [] → (Some (map (procedure_of ts) made) ≡ procedures_from t locals 0 of bodies) × (map body_of made ≡ bodies)
     all_made h = (ap Some (sym (append-nil (map (procedure_of ts) made))) ∙ h.means, sym (append-nil (map body_of made)) ∙ h.kept)
 
-    pub too_many : (b : Option (List RStmt)) (left : Bodies) → IsSoFar made n [] (b ∷ left) → None ≡ procedures_from many locals 0 of bodies
+    pub too_many : (b : Option (List RStmt)) (left : Bodies) → IsSoFar made n [] (b ∷ left) → None ≡ procedures_from t locals 0 of bodies
     too_many b left h = h.means
 
     -- the next of those that are left

@@ -15,15 +15,17 @@ use Rattle.lil_scope.specs.{declared.env.Env.Env, Names.{around_of, chain_by, ch
 use Rattle.lil_layout.specs.Data.{variable_words, data_words}
 use Rattle.lil_check_stmt.specs.{Statements.{result_of, result_by, statements_mean}, Texts.texts, Stmts.{Bodies, body_step, bodies_mean}, declared.stmt.Stated.Stated}
 use Rattle.lil_interfaces.specs.{declared.surface.Interface.Interface, Interfaces.residents}
-use Rattle.lil_right_type.specs.{Right.{Right, Clear, clear_left, clear_right, IsThere, IsAny}, Homes.{HasPassing, stands_inside}}
+use Rattle.lil_right_type.specs.{Right.{Right, Clear, clear_left, clear_right, IsThere, IsAny}, Homes.{HasPassing, IsSeen, stands_inside}}
+use Rattle.lil_right_stmt.specs.Nodes.{Returns}
+use Rattle.lil_resolved.specs.Kinds as Kinds
 use Rattle.lil_right_stmt.specs.Statements.{statements_right}
 use Rattle.lil_right_data.specs.{Room.{locals_there, variables_there, room}, Shapes.shapes_there}
-use Rattle.lil_right_sort.specs.Growth.{fine_at, Few, past_end, AllLie, IsProper, Declared}
+use Rattle.lil_right_sort.specs.Growth.{fine_at, Few, past_end, AllLie, HasHeading, Declared}
 use Rattle.lil_right_decl.specs.{Told.{IsModule, declared_told, declared_settled}, Variables.fine_in}
-use Rattle.lil_check_unit.specs.{Modules.{in_no_with, module_words, are_bytes, locals_laid, parameters_by, procedures_from, module_with, with_variables, with_procedures, laid_out, assembled}, Units.{first_of, declared, stated, is_long, long_rows, names_fault, worst, late_fault, data_rows, data_fault, unit_fault, imports_fault, program_fault, naming_rows, missing_rows, module_of}}
+use Rattle.lil_check_unit.specs.{Modules.{in_no_with, module_words, are_bytes, locals_laid, procedures_from, module_with, with_variables, with_procedures, laid_out, assembled}, Units.{first_of, declared, stated, is_long, long_rows, names_fault, worst, late_fault, data_rows, data_fault, unit_fault, imports_fault, program_fault, naming_rows, missing_rows, module_of}}
 use Rattle.lil_check_unit.specs.UnitLaws.{none_before, none_behind, no_declared, no_stated}
 use Rattle.lil_check_unit.specs.Units as units
-use Rattle.lil_check_unit.proofs.Procedures.{up, outlines, are_outlined, calls_are, procedures_there, made_many, made_outlines, made_strings, made_at, AllFrom, at_number as body_at, bodies_right}
+use Rattle.lil_check_unit.proofs.Procedures.{up, outline, outline_at, outlines, are_outlined, calls_are, procedures_there, made_many, made_outlines, made_strings, made_at, AllFrom, at_number as body_at, bodies_right}
 
 -- ---- no test finds a fault where none is told
 clear_of : (rs : List Row) → tell None rs ≡ None → Clear rs
@@ -92,7 +94,7 @@ module _ (e : Env) (d : Declared e) (settled : e.waits ≡ []) (shapes ts : List
   locals = locals_laid shapes e.locals
 
   abbrev scope : List ℕ → Scope
-  scope chain = outermost (targets e.types shapes) ts (outlines (parameters_by e.types) locals 0 e.procedures) (map up chain)
+  scope chain = outermost (targets e.types shapes) ts (outlines e.types locals 0 e.procedures) (map up chain)
 
   -- a procedure by its number
   abbrev BodyRight : ℕ → Option (List RStmt) → Type 0
@@ -102,17 +104,22 @@ module _ (e : Env) (d : Declared e) (settled : e.waits ≡ []) (shapes ts : List
   they_lie : (p : ℕ) → (ss : List Shape) × (locals p ≡ Some ss)
   they_lie p = locals_there e.types d.told.types d.told.words shapes all (locals_in e.locals p) (fine_in (AllLie HasPassing e.types) e.locals p d.variables.1 tt)
 
-  fits : (chain : List ℕ) → Fits e.types (seen_in e.variables e.locals chain) [] (scope chain)
-  fits chain = outside e.types e.variables e.locals shapes ts (outlines (parameters_by e.types) locals 0 e.procedures) chain all variables (are_outlined e.types shapes e.locals e.procedures d.told.homed.each they_lie d.headed)
+  fits : (chain : List ℕ) → Fits e.types (seen_in e.variables e.locals chain) [] (IsSeen e.procedures chain) (scope chain)
+  fits chain = outside e.types e.variables e.locals shapes ts (outlines e.types locals 0 e.procedures) chain all variables (are_outlined e.types shapes e.locals e.procedures d.told.homed.each they_lie d.headed)
+      (IsSeen e.procedures chain) (calls_are e.types shapes e.locals e.procedures all they_lie d.headed chain (scope chain) refl refl)
+
+  -- what a procedure returns
+  returns_at : (n : ℕ) (q : RProc) → slice_get e.procedures n ≡ Some q → Returns e.types (scope (chain_by e.procedures (Some n))) (result_of e.types (slice_get e.procedures n))
+  returns_at n q there =
+      let next : n + 1 ≡ suc n = omega arith in
+      let known : procedure_by (outlines e.types locals 0 e.procedures) (n + 1) ≡ Some (outline e.types locals n q) = ap (procedure_by (outlines e.types locals 0 e.procedures)) next ∙ outline_at e.types locals e.procedures n q there in
+      subst (Returns e.types (scope (chain_by e.procedures (Some n)))) (sym (ap (result_of e.types) there)) (ap Kinds.result_of known, (fine_at (HasHeading e.types) e.procedures n q d.headings there).1.1)
 
   at_number : (n : ℕ) (q : RProc) → slice_get e.procedures n ≡ Some q → (ss : List Stmt) → Right (BodyRight n) (statements_mean (inside n (Some q) e) false ss)
   at_number n q there ss =
       statements_right (inside n (Some q) e) (scope (chain_by e.procedures (Some n))) (fits (chain_by e.procedures (Some n)))
       (record { types = d.told.types; words = d.told.words; names = d.told.names; homed = d.told.homed; stands = stands_inside e.scopes.blocks e.procedures e.variables e.locals d.told.homed n q there }) settled
-      (record {
-        returns = ap (result_of e.types) there ∙ (fine_at (IsProper e.types) e.procedures n q d.proper there).1.1;
-        calls = calls_are e.types shapes e.locals e.procedures all they_lie d.headed (chain_by e.procedures (Some n)) (scope (chain_by e.procedures (Some n))) refl refl;
-      }) false ss
+      (returns_at n q there) false ss
 
   procedure_right : (n : ℕ) (ss : List Stmt) → n < length e.procedures → Right (BodyRight n) (statements_mean (entered n e) false ss)
   procedure_right n ss less = by (slice_get e.procedures n) refl
@@ -126,7 +133,7 @@ module _ (e : Env) (d : Declared e) (settled : e.waits ≡ []) (shapes ts : List
       subst (λ (o : Option ℕ). Right (IsThere (AllSound (scope (chain_by e.procedures o)) false)) (statements_mean (in_no_with e) false ss)) none
       (statements_right (in_no_with e) (scope (chain e)) (fits (chain e))
       (record { types = d.told.types; words = d.told.words; names = d.told.names; homed = d.told.homed; stands = d.told.stands }) settled
-      (record { returns = ap (result_by (in_no_with e)) none; calls = calls_are e.types shapes e.locals e.procedures all they_lie d.headed (chain e) (scope (chain e)) refl refl }) false ss)
+      (subst (λ (o : Option ℕ). Returns e.types (scope (chain_by e.procedures o)) (result_by (in_no_with e) o)) (sym none) (refl, tt)) false ss)
 
   bytes_in : (ns : List ℕ) → AllFine (λ n. n < 250) ns → are_bytes ns ≡ true
   bytes_in [] h = refl
@@ -145,18 +152,18 @@ module _ (e : Env) (d : Declared e) (settled : e.waits ≡ []) (shapes ts : List
   made : (n : List ℕ) (ss : List RStmt) (bs : Bodies) → all_words ts ≤ sum_by (variable_words e.types) e.variables → data_words e.types e.variables bs (Some ss) ≤ 32000
       → AllSound (scope []) false ss → AllFrom BodyRight 0 bs → length bs ≡ length e.procedures → Meant (assembled e n (record { procedures = bs; body = Some ss }))
   made n ss bs low few sound bodies many =
-      let ps = procedures_there (parameters_by e.types) locals they_lie 0 e.procedures bs many (some_bodies 0 bs bodies) (all_bytes e.procedures (λ n q is. bytes_in q.around (d.told.homed.blocks n q is).path.low.1)) in
+      let ps = procedures_there e.types locals they_lie 0 e.procedures bs many (some_bodies 0 bs bodies) (all_bytes e.procedures (λ n q is. bytes_in q.around (d.told.homed.blocks n q is).path.low.1)) in
       let m : Resolved = module_with e.types e.variables e.procedures e.locals n shapes ts ps.0 (statements_of ss) in
-      let r = room e.types e.variables n shapes ts ps.0 bs ss low (made_strings (parameters_by e.types) locals 0 e.procedures bs ps.0 ps.1) few in
+      let r = room e.types e.variables n shapes ts ps.0 bs ss low (made_strings e.types locals 0 e.procedures bs ps.0 ps.1) few in
       let fits : nat_le (module_words m) 32000 ≡ true = grind (arith, nat_tests, r) in
-      let same : map outline_of ps.0 ≡ outlines (parameters_by e.types) locals 0 e.procedures = made_outlines (parameters_by e.types) locals 0 e.procedures bs ps.0 ps.1 in (
+      let same : map outline_of ps.0 ≡ outlines e.types locals 0 e.procedures = made_outlines e.types locals 0 e.procedures bs ps.0 ps.1 in (
         m,
         ap (λ (o : Option (List Shape)). laid_out e.types e.variables e.procedures e.locals n o bs ss) all
             ∙ ap (λ (o : Option (List Procedure)). with_procedures e.types e.variables e.procedures e.locals n shapes o ss) ps.1
             ∙ ap (λ (o : Option (List Shape)). with_variables e.types e.variables e.procedures e.locals n shapes o ps.0 ss) variables
             ∙ ap (λ (c : Bool). if c then Some m else None) fits,
         record {
-          few = omega (arith, made_many (parameters_by e.types) locals 0 e.procedures bs ps.0 ps.1, d.told.homed.few);
+          few = omega (arith, made_many e.types locals 0 e.procedures bs ps.0 ps.1, d.told.homed.few);
           body = subst (λ (xs : List Outline). IsSoundBody (outermost (targets e.types shapes) ts xs []) false (statements_of ss)) (sym same) (body_sound (scope []) false ss sound);
           procedures = procedures ps.0 ps.1 same;
         },
@@ -165,15 +172,15 @@ module _ (e : Env) (d : Declared e) (settled : e.waits ≡ []) (shapes ts : List
       at_number_of : (n : ℕ) (body : List RStmt) → slice_get bs n ≡ Some (Some body) → BodyRight n (Some body)
       at_number_of n body is = let same : 0 + n ≡ n = omega arith in subst (λ (k : ℕ). BodyRight k (Some body)) same (body_at BodyRight 0 bs n (Some body) bodies is)
 
-      procedures : (ps : List Procedure) → procedures_from (parameters_by e.types) locals 0 e.procedures bs ≡ Some ps → map outline_of ps ≡ outlines (parameters_by e.types) locals 0 e.procedures → (p : ℕ) (its : Procedure) → procedure_by ps p ≡ Some its
+      procedures : (ps : List Procedure) → procedures_from e.types locals 0 e.procedures bs ≡ Some ps → map outline_of ps ≡ outlines e.types locals 0 e.procedures → (p : ℕ) (its : Procedure) → procedure_by ps p ≡ Some its
           → IsSoundBody (outermost (targets e.types shapes) ts (map outline_of ps) (p ∷ its.around)) false its.body
       procedures ps made same zero its is = absurd (none-some its is)
       procedures ps made same (suc n) its is =
-          let m = made_at (parameters_by e.types) locals 0 e.procedures bs ps made n its is in
+          let m = made_at e.types locals 0 e.procedures bs ps made n its is in
           let next : up n ≡ suc n = omega arith in
           subst (λ (p : Procedure). IsSoundBody (outermost (targets e.types shapes) ts (map outline_of ps) (suc n ∷ p.around)) false p.body) (sym m.is)
           (subst (λ (xs : List Outline). IsSoundBody (outermost (targets e.types shapes) ts xs (suc n ∷ map up m.of.around)) false (statements_of m.body)) (sym same)
-          (subst (λ (c : List ℕ). IsSoundBody (outermost (targets e.types shapes) ts (outlines (parameters_by e.types) locals 0 e.procedures) c) false (statements_of m.body)) (λ i. next i ∷ map up (around_of (m.there i)))
+          (subst (λ (c : List ℕ). IsSoundBody (outermost (targets e.types shapes) ts (outlines e.types locals 0 e.procedures) c) false (statements_of m.body)) (λ i. next i ∷ map up (around_of (m.there i)))
           (body_sound (scope (chain_by e.procedures (Some n))) false m.body (at_number_of n m.body m.body_there))))
 
 at_most : (n : ℕ) → nat_lt 32000 n ≡ false → n ≤ 32000
@@ -232,7 +239,7 @@ module _ (u : Tree) where
         told = record { types = is_declared.told.types; words = is_declared.told.words; names = is_declared.told.names; homed = is_declared.told.homed; stands = is_declared.told.stands };
         residents = is_declared.residents;
         variables = is_declared.variables;
-        proper = is_declared.proper;
+        headings = is_declared.headings;
         headed = is_declared.headed;
       }
 

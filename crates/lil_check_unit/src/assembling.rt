@@ -1,7 +1,7 @@
 //! The module that what is declared and stated makes.
 
 ghost use Rattle.std.specs.{Prelude.{◌≡◌, ◌≤◌, ◌+◌, None, map, option_map, if◌then◌else◌, IfOk, IfSome, Some}, List.All};
-ghost use Rattle.lil_resolved.specs.Views.{heading_of, module_of, procedure_of, statements_of, IsMeasured, IsMeasuredHeading};
+ghost use Rattle.lil_resolved.specs.Views.{heading_of, kind_view, module_of, procedure_of, statements_of, IsMeasured, IsMeasuredHeading};
 ghost use Rattle.lil_shapes.specs.{Measured.{shapes_in, shapes_laid, IsShaped, IsLaid}, Shaping.{all_some, lying}};
 ghost use Rattle.lil_check_unit.specs.Modules as spec;
 ghost use Rattle.lil_check_unit.specs.Whole.{body_of};
@@ -10,10 +10,10 @@ ghost use Rattle.lil_check_unit.specs.Units.{IsThere};
 use lil_base::{Items, Memory, Name};
 use lil_check_stmt::Stated;
 use lil_declared::{RProc, RVar};
-use lil_kinds::arity;
-use lil_resolved::{RHeading, RModule, RProcedure, RStmt};
+use lil_kinds::{arity, result};
+use lil_resolved::{RHeading, RKind, RModule, RProcedure, RStmt};
 use lil_scope::{Env, Locals};
-use lil_shapes::{Laid, Shaped, all_shapes, all_targets, lay, lay_locals};
+use lil_shapes::{Laid, Shaped, all_shapes, all_targets, kind_at, lay, lay_locals};
 use lil_types::TypeTable;
 use std::alloc::Global;
 
@@ -31,6 +31,16 @@ fn bytes(alloc: Global, of: &[usize]) -> Result<Option<Items<u8>>, Memory>
     Ok(Some(numbers))
 }
 
+/// The kind of what a procedure returns, where it is a function.
+fn result_of(table: &TypeTable, of: &RProc) -> Option<RKind>
+    ensures { option_map kind_view result ≡ spec.result_by table.now of.now }
+{
+    match result(table, of.sort) {
+        None => None,
+        Some(sort) => kind_at(table, sort),
+    }
+}
+
 /// A procedure with its parameters, its variables and its body, where it has code.
 fn procedure(
     alloc: Global,
@@ -41,7 +51,7 @@ fn procedure(
     body: Option<Items<RStmt>>,
 ) -> Result<Option<RProcedure>, Memory>
     requires { IsShaped types.now }
-    ensures means { IfOk result (λ o. option_map (procedure_of types.now.shapes) o ≡ spec.made_of (spec.parameters_by table.now of.now) of.now (all_some (map (lying (shapes_in types.now)) variables.now)) body) }
+    ensures means { IfOk result (λ o. option_map (procedure_of types.now.shapes) o ≡ spec.made_of table.now of.now (all_some (map (lying (shapes_in types.now)) variables.now)) body) }
     ensures body { IfOk result (λ o. IfSome o (λ p. body_of p ≡ body)) }
     ensures measured { IfOk result (λ o. IfSome o (λ p. IsMeasuredHeading types.now.shapes p.heading)) }
 {
@@ -60,6 +70,7 @@ fn procedure(
         around,
         locals: laid.variables,
         parameters: arity(table, of.sort),
+        result: result_of(table, of),
         words: laid.words,
     };
     Ok(Some(RProcedure { heading, body }))
@@ -75,7 +86,7 @@ fn procedures(
     bodies: Items<Option<Items<RStmt>>>,
 ) -> Result<Option<Items<RProcedure>>, Memory>
     requires { IsShaped types.now }
-    ensures means { IfOk result (λ o. option_map (map (procedure_of types.now.shapes)) o ≡ spec.procedures_from (spec.parameters_by table.now) (spec.locals_laid (shapes_in types.now) locals.now) 0 of.now bodies) }
+    ensures means { IfOk result (λ o. option_map (map (procedure_of types.now.shapes)) o ≡ spec.procedures_from table.now (spec.locals_laid (shapes_in types.now) locals.now) 0 of.now bodies) }
     ensures bodies { IfOk result (λ o. IfSome o (λ ps. map body_of ps ≡ bodies)) }
     ensures measured { IfOk result (λ o. IfSome o (λ ps. All (IsMeasuredHeading types.now.shapes) (map heading_of ps))) }
 {

@@ -4,3 +4,4 @@ pub mod Chains
 pub mod Sets
 pub mod Tables
 pub mod Placing
+pub mod Calling

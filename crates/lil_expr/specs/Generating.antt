@@ -1,8 +1,8 @@
 -- What the code means that the generator of expressions adds.
 use Rattle.std.specs.Prelude.{◌≡◌, ℕ, ◌+◌, ◌≤◌, true, Option, Some, None}
 use Rattle.lil_base.specs.declared.operator.TwoOp.{TwoOp, TheVariants.{Or, And}}
-use Rattle.lil_resolved.specs.{declared.resolved.{ROperation.ROperation, RSelector.RSelector, RMember.RMember}, Kinds.{Kind, words, is_there, shape_at}, Resolved.{Designator, Expression, kind_of, shape_of}, Sound.{IsSoundPlace, IsSoundExpression}, Views.{operation_of, selector_of, member_of, shapes_of}}
-use Rattle.lil_table.specs.Rows.{InstrsAt, test_code, Access, access_of, PlaceAt, ExpressionAt}
+use Rattle.lil_resolved.specs.{declared.resolved.{ROperation.ROperation, RSelector.RSelector, RMember.RMember}, Kinds.{Kind, words, is_there, shape_at}, Resolved.{Designator, Expression, kind_of, shape_of}, Sound.{IsSoundPlace, IsSoundExpression, IsSoundStored}, Views.{operation_of, selector_of, member_of, shapes_of}}
+use Rattle.lil_table.specs.Rows.{InstrsAt, test_code, Access, access_of, address_code, PlaceAt, ExpressionAt, ValueRow}
 use Rattle.lil_labels.specs.{declared.buffer.Aim.Aim, Drafts.{Final, Meaning}}
 use Rattle.lil_labels.specs.declared.buffer.Aim.TheVariants as aim
 use Rattle.lil_expr.specs.Accesses.{words_in}
@@ -20,6 +20,10 @@ pub record TestedAt (k : Kind) (e : Expression) (x : Final) (p q : ℕ) : Type 0
 -- a sound value has its code and its test
 abbrev pub Tested : Kind → Expression → Meaning
 Tested k e x p q = IsSoundExpression x.layout.scope e → TestedAt k e x p q
+
+-- the same of one that is stored at a place of the kind, where up to 3 words of others stand below its own
+abbrev pub Stored : Expression → Kind → Meaning
+Stored e k x p q = (n : ℕ) → IsSoundStored x.layout.scope e k → n ≤ 3 → ValueRow x.layout x.code n e k p q
 
 -- behind the code of any set, it makes it that of the set with the member too
 abbrev pub Joining : Kind → RMember → Meaning
@@ -39,6 +43,17 @@ pub record ReachedAt (d : Designator) (a : Access) (n : ℕ) (x : Final) (p q : 
 -- a sound place where something lies has its code
 abbrev pub Found : Designator → Access → ℕ → Meaning
 Found d a n x p q = IsSoundPlace x.layout.scope d → is_there (shape_of x.layout.scope d) ≡ true → ReachedAt d a n x p q
+
+-- a place and its address, and a number of its shape in the tables
+pub record AddressAt (d : Designator) (n : ℕ) (x : Final) (p q : ℕ) : Type 0 where
+  pub found : ℕ
+  pub place : PlaceAt x.layout x.code d p found
+  pub address : InstrsAt x.code (address_code (access_of x.layout d)) found q
+  pub shape : shape_at (shapes_of x.tables.shapes) n ≡ shape_of x.layout.scope d
+
+-- a sound place where something lies has its code and its address
+abbrev pub Addressed : Designator → ℕ → Meaning
+Addressed d n x p q = IsSoundPlace x.layout.scope d → is_there (shape_of x.layout.scope d) ≡ true → AddressAt d n x p q
 
 -- behind the code of any place that code has so, it makes it that of the place's part
 abbrev pub Selecting : RSelector → Access → ℕ → Access → ℕ → Meaning

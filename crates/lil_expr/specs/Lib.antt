@@ -1,4 +1,5 @@
 pub mod Accesses
+pub mod Calling
 pub mod Generating
 pub mod Numbers
 pub mod Variables

@@ -5,8 +5,9 @@ ghost use Rattle.lil_base.specs.Words as words;
 ghost use Rattle.lil_resolved.specs.{Kinds.OfWhole, Views.{base_view, kind_view, expression_of, place_of}};
 ghost use Rattle.lil_table.specs.Rows.{two_code, one_code, number_code, set_code};
 ghost use Rattle.lil_labels.specs.Drafts.{DoingAll, Each, Emits};
-ghost use Rattle.lil_expr.specs.{Accesses.access_view, Generating.{Found, Selecting, Value, Tested, Joining, Operating, aim_of}};
+ghost use Rattle.lil_expr.specs.{Accesses.access_view, Generating.{Addressed, Found, Selecting, Value, Tested, Stored, Joining, Operating, aim_of}};
 
+use crate::calls::emit_call;
 use crate::functions::emit_function;
 use crate::numbers::constant_word;
 use crate::places::{Access, Reached, emit_address, emit_load, emit_root, further};
@@ -45,6 +46,12 @@ pub fn emit_expression(code: &mut CodeBuffer<'_>, e: &RExpr) -> Result<(), Memor
             code.put(Instr::Liw(0))?;
             emit_members(code, *kind, members.as_slice())
         }
+        // what stands on the expression stack is saved until the call has returned
+        RExpr::Invoke(procedure, levels, _, given) => {
+            code.put(Instr::Sav)?;
+            emit_call(code, *procedure, *levels, given.as_slice())?;
+            code.put(Instr::Rst(1))
+        }
     }
 }
 
@@ -59,6 +66,16 @@ pub fn emit_place(code: &mut CodeBuffer<'_>, of: &RPlace) -> Result<Reached, Mem
         at = emit_selector(code, selector, at)?;
     }
     Ok(at)
+}
+
+/// Appends the code of a place and of its address, and gives a number of its shape.
+#[cycle(emitting)]
+pub fn emit_address_of(code: &mut CodeBuffer<'_>, of: &RPlace) -> Result<usize, Memory>
+    ensures { IfOk result (λ shape. Emits code.old code.new (Addressed (place_of of.now) shape)) }
+{
+    let at = emit_place(code, of)?;
+    emit_address(code, at.access)?;
+    Ok(at.shape)
 }
 
 /// Appends the code that goes on from a place to a part of it: none to a field; to an element the address of its array, the
@@ -137,8 +154,9 @@ fn emit_member(code: &mut CodeBuffer<'_>, kind: RKind, member: &RMember) -> Resu
 
 /// Appends the code of a value where one of a kind is wanted, and its test.
 #[cycle(emitting)]
-fn emit_tested(code: &mut CodeBuffer<'_>, kind: RKind, value: &RExpr) -> Result<(), Memory>
-    ensures { OnOk result (Emits code.old code.new (Tested (kind_view kind) (expression_of value.now))) }
+pub fn emit_tested(code: &mut CodeBuffer<'_>, kind: RKind, value: &RExpr) -> Result<(), Memory>
+    ensures tested { OnOk result (Emits code.old code.new (Tested (kind_view kind) (expression_of value.now))) }
+    ensures stored { OnOk result (Emits code.old code.new (Stored (expression_of value.now) (kind_view kind))) }
 {
     emit_expression(code, value)?;
     emit_test(code, kind, base(value))?;

@@ -1,13 +1,15 @@
-//! The code of expressions and of places.
+//! The code of expressions, of places and of calls.
 #![tactic(auto)]
 
+mod calls;
 mod expressions;
 mod functions;
 mod numbers;
 mod places;
 mod ranges;
 
-pub use expressions::{emit_expression, emit_place};
+pub use calls::{emit_call, emit_single};
+pub use expressions::{emit_address_of, emit_expression, emit_place, emit_tested};
 pub use numbers::word_of_number;
-pub use places::{Access, Reached, emit_address, variable_access};
+pub use places::{Access, Reached, variable_access};
 pub use ranges::{covers, emit_test};

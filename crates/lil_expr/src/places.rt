@@ -85,7 +85,7 @@ pub(crate) fn further(access: Access, words: u16) -> Access
 }
 
 /// Appends the instructions that bring the address of a place to the expression stack.
-pub fn emit_address(code: &mut CodeBuffer<'_>, access: Access) -> Result<(), Memory>
+pub(crate) fn emit_address(code: &mut CodeBuffer<'_>, access: Access) -> Result<(), Memory>
     ensures { OnOk result (Emits code.old code.new (DoingAll (address_code (access_view access)))) }
 {
     match access {

@@ -1,8 +1,8 @@
 -- Places with a part more, chains with an operation more, and sets with a member more.
 use Rattle.std.proofs.Common.{◌≡◌, List, [], ◌∷◌, ◌++◌, map, refl, sym, ap, ◌∙◌}
 use Rattle.lil_base.specs.declared.operator.TwoOp.{TwoOp}
-use Rattle.lil_resolved.specs.{Kinds.Kind, Resolved.{Designator, Expression}, Views.{place_is, root_view, two_of, chained, selected, with_members, expression_layer, selector_layer, member_layer, operation_layer, place_layer, expression_of, selector_of, member_of, operation_of, place_of}}
-use Rattle.lil_resolved.specs.declared.resolved.{RExpr.{RExpr, TheFolds.{fold-roll-RPlace, fold-roll-ROperation}}, RMember.RMember, ROperation.ROperation, RPlace.{RPlace, roll-RPlace, out-RPlace}, RRoot.RRoot, RSelector.RSelector}
+use Rattle.lil_resolved.specs.{Kinds.Kind, Resolved.{Designator, Expression, Argument}, Views.{place_is, root_view, two_of, chained, selected, with_members, argument_layer, expression_layer, selector_layer, member_layer, operation_layer, place_layer, expression_of, selector_of, member_of, operation_of, place_of}}
+use Rattle.lil_resolved.specs.declared.resolved.{RArgument.TheFolds.{fold-roll-RPlace, fold-roll-ROperation}, RExpr.RExpr, RMember.RMember, ROperation.ROperation, RPlace.{RPlace, roll-RPlace, out-RPlace}, RRoot.RRoot, RSelector.RSelector}
 use Rattle.lil_forms.specs.{Places.further, Values.operation}
 
 -- ---- places
@@ -11,7 +11,7 @@ selected_more d [] s = refl
 selected_more d (t ∷ ss) s = selected_more (selector_of t d) ss s
 
 pub placed_is : (r : RRoot) (ss : List RSelector) → place_of (roll-RPlace (record { root = r; selectors = ss })) ≡ selected (root_view r) (map selector_of ss)
-placed_is r ss = fold-roll-RPlace Expression (Kind → Expression → Expression) (Designator → Designator) (Expression → Expression) Designator expression_layer member_layer selector_layer operation_layer place_layer (record { root = r; selectors = ss })
+placed_is r ss = fold-roll-RPlace Argument Expression (Kind → Expression → Expression) (Designator → Designator) (Expression → Expression) Designator argument_layer expression_layer member_layer selector_layer operation_layer place_layer (record { root = r; selectors = ss })
 
 pub further_is : (p : RPlace) (s : RSelector) → place_of (further p s) ≡ selector_of s (place_of p)
 further_is p s =
@@ -22,7 +22,7 @@ further_is p s =
 -- ---- chains
 pub operated_is : (op : TwoOp) (y : RExpr) (a : Expression) → operation_of (operation op y) a ≡ two_of op a (expression_of y)
 operated_is op y a = ap (λ (f : Expression → Expression). f a)
-    (fold-roll-ROperation Expression (Kind → Expression → Expression) (Designator → Designator) (Expression → Expression) Designator expression_layer member_layer selector_layer operation_layer place_layer (record { operator = op; operand = y }))
+    (fold-roll-ROperation Argument Expression (Kind → Expression → Expression) (Designator → Designator) (Expression → Expression) Designator argument_layer expression_layer member_layer selector_layer operation_layer place_layer (record { operator = op; operand = y }))
 
 pub chained_more : (a : Expression) (os : List ROperation) (op : TwoOp) (y : RExpr)
     → chained a (map operation_of (os ++ operation op y ∷ [])) ≡ two_of op (chained a (map operation_of os)) (expression_of y)

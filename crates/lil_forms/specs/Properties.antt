@@ -1,12 +1,13 @@
 -- Properties of places and of expressions that come from their parts.
-use Rattle.std.proofs.Common.{◌≡◌, ℕ, ℤ, true, List, [], ◌∷◌, ◌++◌, length, slice_get, Option, Some}
+use Rattle.std.proofs.Common.{◌≡◌, ◌⊎◌, ℕ, ◌+◌, ◌≤◌, ℤ, true, false, List, [], ◌∷◌, ◌++◌, length, slice_get, Option, Some}
 use Rattle.std.specs.Prelude.{◌-◌}
 use Rattle.lil_base.specs.declared.operator.{OneOp.OneOp, TwoOp.TwoOp}
-use Rattle.lil_types.specs.Types.{Table}
+use Rattle.lil_types.specs.{Types.Table, declared.table.Parameter.Parameter}
 use Rattle.lil_declared.specs.declared.declared.RVar.{RVar}
-use Rattle.lil_kinds.specs.declared.found.Located.{Located}
-use Rattle.lil_resolved.specs.{Resolved.{kind_of, right_kind}, Kinds.Kind, Sound.{takes_one, takes_value, takes_function, is_element}, Views.{base_view, kind_view, function_of, expression_of}}
-use Rattle.lil_resolved.specs.declared.resolved.{RBase.RBase, RExpr.RExpr, RFunction.RFunction, RKind.RKind, RMember.RMember, RNamed.RNamed, ROperation.ROperation, RRoot.RRoot}
+use Rattle.lil_kinds.specs.{Forms.{parameters, result}, declared.found.Located.Located}
+use Rattle.lil_resolved.specs.{Resolved.{kind_of, right_kind}, Kinds.Kind, Sizes.{place_depth, depth}, Sound.{takes_one, takes_value, stores_value, takes_function, is_element}, Views.{base_view, kind_view, function_of, expression_of, place_of}}
+use Rattle.lil_resolved.specs.declared.resolved.{RArgument.RArgument, RBase.RBase, RExpr.RExpr, RFunction.RFunction, RKind.RKind, RMember.RMember, RNamed.RNamed, ROperation.ROperation, RRoot.RRoot}
+use Rattle.lil_resolved.specs.declared.resolved.RArgument.TheVariants as given
 use Rattle.lil_resolved.specs.declared.resolved.RExpr.TheVariants as e
 use Rattle.lil_resolved.specs.declared.resolved.RMember.TheVariants as m
 use Rattle.lil_resolved.specs.declared.resolved.RRoot.TheVariants as root
@@ -18,8 +19,53 @@ use Rattle.lil_forms.specs.{Places.{root_of, at_root, part_of}, Values.operation
 abbrev pub value_kind : RExpr → Kind
 value_kind x = kind_of (expression_of x)
 
--- one of what designators reach, and one of expressions, over a table of types, the variables that are seen and the records of the WITHs around
-pub record Property (t : Table) (vs : RNamed → Option RVar) (around : List ℕ) : Type 1 where
+-- which procedures of a text names reach: by their procedure types, their numbers, and how many procedures out they are declared
+abbrev pub Reach : Type 1
+Reach = ℕ → ℕ → ℕ → Type 0
+
+-- ---- what is handed over for a parameter that is no open array. Its code takes up to 13 words of the expression stack
+module _ (t : Table) (Lies : Located → Type 0) (Runs : RExpr → Type 0) where
+  -- a value that may be stored where one of the parameter's kind is wanted
+  pub record IsValueFor (p : Parameter) (a : RArgument) : Type 0 where
+    pub kind : RKind
+    pub value : RExpr
+    pub is : a ≡ given.Value kind value
+    pub by_value : p.by_place ≡ false
+    pub at : kind_at t p.sort ≡ Some kind
+    pub stores : stores_value (kind_view kind) (value_kind value) ≡ true
+    pub shallow : depth (expression_of value) ≤ 13
+    pub good : Runs value
+
+  -- a place of the parameter's type
+  pub record IsPlaceFor (p : Parameter) (a : RArgument) : Type 0 where
+    pub at : Located
+    pub is : a ≡ given.Place at.place
+    pub by_place : p.by_place ≡ true
+    pub sort : at.sort ≡ p.sort
+    pub shallow : place_depth (place_of at.place) ≤ 13
+    pub good : Lies at
+
+  -- all that lies at one
+  pub record IsWholeFor (p : Parameter) (a : RArgument) : Type 0 where
+    pub at : Located
+    pub is : a ≡ given.All at.place
+    pub by_value : p.by_place ≡ false
+    pub sort : at.sort ≡ p.sort
+    pub shallow : place_depth (place_of at.place) ≤ 13
+    pub good : Lies at
+
+  abbrev pub IsHanded : Parameter → RArgument → Type 0
+  IsHanded p a = IsValueFor p a ⊎ (IsPlaceFor p a ⊎ IsWholeFor p a)
+
+  abbrev pub AreHanded : List Parameter → List RArgument → Type 0
+  AreHanded [] [] = Unit {0}
+  AreHanded [] (a ∷ xs) = ⊥
+  AreHanded (p ∷ ps) [] = ⊥
+  AreHanded (p ∷ ps) (a ∷ xs) = IsHanded p a × AreHanded ps xs
+
+-- one of what designators reach, and one of expressions, over a table of types, the variables that are seen, the records of the WITHs around
+-- and the procedures that names reach
+pub record Property (t : Table) (vs : RNamed → Option RVar) (around : List ℕ) (R : Reach) : Type 1 where
   pub place : Located → Type 0
   pub value : RExpr → Type 0
   -- places
@@ -29,11 +75,13 @@ pub record Property (t : Table) (vs : RNamed → Option RVar) (around : List ℕ
   pub index : (p : Located) (parts : ArrayParts) (j : RKind) (x : RExpr) → array_at t p.sort ≡ Some parts → kind_at t parts.index ≡ Some j → takes_value (kind_view j) (value_kind x) ≡ true → place p → value x
       → place (part_of p (part.Index j x) parts.element)
   pub follow : (p : Located) (x : Target) → target_at t p.sort ≡ Some x → place p → place (part_of p (part.Follow x.pointer) x.sort)
-  -- constants, what lies at places, a sign or NOT, and standard functions
+  -- constants, what lies at places, a sign or NOT, standard functions,
   pub constant : (k : RBase) (z : ℤ) → has_number k z ≡ true → value (e.Constant k z)
   pub taken : (p : Located) (j : RKind) → kind_at t p.sort ≡ Some j → place p → value (e.Taken p.place j)
   pub one : (op : OneOp) (x : RExpr) → takes_one op (value_kind x) ≡ true → value x → value (e.One op x)
   pub apply : (g : RFunction) (x : RExpr) → takes_function (function_of g (value_kind x)) (value_kind x) ≡ true → value x → value (e.Apply g x)
+  -- and calls of functions, by their numbers from 1
+  pub invoke : (s n levels r : ℕ) (j : RKind) (xs : List RArgument) → R s n levels → result t s ≡ Some r → kind_at t r ≡ Some j → AreHanded t place value (parameters t s) xs → value (e.Invoke (n + 1) levels j xs)
   -- chains, and one operation more
   pub begin : (x : RExpr) → value x → value (e.Chain x [])
   pub chain : (op : TwoOp) (a : RExpr) (os : List ROperation) (k : RBase) (x : RExpr) → value_kind (e.Chain a os) ≡ base_view k → takes_two op (base_view k) ≡ true → value_kind x ≡ right_kind op (base_view k)
@@ -45,8 +93,8 @@ pub record Property (t : Table) (vs : RNamed → Option RVar) (around : List ℕ
       → value (e.Set k ms) → value x → value y → value (e.Set k (ms ++ m.Span x y ∷ []))
 
 -- none at all
-abbrev pub nothing : (t : Table) (vs : RNamed → Option RVar) (around : List ℕ) → Property t vs around
-nothing t vs around = record {
+abbrev pub nothing : (t : Table) (vs : RNamed → Option RVar) (around : List ℕ) (R : Reach) → Property t vs around R
+nothing t vs around R = record {
   place = λ p. Unit {0};
   value = λ x. Unit {0};
   variable = λ n v r is root. tt;
@@ -58,6 +106,7 @@ nothing t vs around = record {
   taken = λ p j is h. tt;
   one = λ op x takes h. tt;
   apply = λ g x takes h. tt;
+  invoke = λ s n levels r j xs reached returns at all. tt;
   begin = λ x h. tt;
   chain = λ op a os k x is takes right h i. tt;
   empty = λ k. tt;

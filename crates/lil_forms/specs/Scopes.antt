@@ -2,15 +2,15 @@
 use Rattle.std.proofs.Common.{◌≡◌, ℕ, zero, suc, ◌+◌, ◌<◌, Bool, true, false, ◌&&◌, List, [], ◌∷◌, ◌++◌, length, map, take, slice_get, Option, None, Some, inl, inr, refl, sym, ap, subst, ◌∙◌, arith}
 use Rattle.std.specs.{Prelude.{◌-◌, option_and_then}, Option.option_map}
 use Rattle.std.proofs.lemmas.{Option.{none-some, slice_get_within, slice_get-map}, List.length_push}
-use Rattle.lil_types.specs.Types.{Table}
+use Rattle.lil_types.specs.{Types.Table, declared.table.Parameter.Parameter}
 use Rattle.lil_declared.specs.declared.declared.{Mode.TheVariants.Place, RVar.RVar}
-use Rattle.lil_kinds.specs.declared.found.Located.{Located}
-use Rattle.lil_resolved.specs.{Resolved.{Named, OfModule, OfLevel, Designator, variable_at, shape_of}, Kinds.{Shape, Outline, Scope, procedure_by, parameters_of, locals_of, parameters_at, locals_at, is_there, outermost, with_held}, Sound.{IsSoundPlace, IsSoundExpression}, Views.{named_view, expression_of, place_of}, declared.resolved.{RExpr.RExpr, RNamed.RNamed, RPlace.RPlace}}
+use Rattle.lil_kinds.specs.{Forms.{parameters, result}, declared.found.Located.Located}
+use Rattle.lil_resolved.specs.{Resolved.{Named, OfModule, OfLevel, Designator, variable_at, shape_of}, Kinds.{Kind, Shape, Outline, Scope, MayCall, procedure_by, parameters_of, result_of, locals_of, parameters_at, locals_at, is_there, outermost, with_held}, Sound.{IsSoundPlace, IsSoundExpression}, Views.{kind_view, named_view, expression_of, place_of}, declared.resolved.{RExpr.RExpr, RNamed.RNamed, RPlace.RPlace}}
 use Rattle.lil_resolved.specs.declared.resolved.RNamed.TheVariants as named
 use Rattle.lil_scope.specs.Names.{locals_by}
-use Rattle.lil_shapes.specs.{Pointers.targets, Shaping.{all_some, lying, variables_by}, ListLaws.{AllFine, some_at}, ShapeSound.{at_end, within_is, HasShape}, TargetSound.all_known}
+use Rattle.lil_shapes.specs.{Pointers.targets, Shaping.{all_some, held_in, lying, variables_by}, ListLaws.{AllFine, some_at}, ShapeSound.{mapped, at_end, within_is, HasShape}, TargetSound.all_known}
 use Rattle.lil_shapes.specs.Shaping as shaping
-use Rattle.lil_forms.specs.Variables.{locals_out, seen_in}
+use Rattle.lil_forms.specs.{Properties.Reach, Values.returned, Variables.{locals_out, passing_by, seen_in}}
 
 -- ---- tests of two conditions, and of an order
 pub both_left : (a b : Bool) → (a && b) ≡ true → a ≡ true
@@ -26,20 +26,49 @@ pub fine_more : {A : Type 0} (IsFine : A → Type 0) (xs : List A) (x : A) → A
 fine_more IsFine [] x h j = (j, tt)
 fine_more IsFine (y ∷ xs) x h j = (h.0, fine_more IsFine xs x h.1 j)
 
+-- values that are all there have a first one
+pub record HasFirst {A : Type 0} (o : Option A) (os : List (Option A)) (xs : List A) : Type 0 where
+  pub value : A
+  pub rest : List A
+  pub is : o ≡ Some value
+  pub others : all_some os ≡ Some rest
+  pub all : xs ≡ value ∷ rest
+
+pub first_some : {A : Type 0} (o : Option A) (os : List (Option A)) (xs : List A) → all_some (o ∷ os) ≡ Some xs → HasFirst o os xs
+first_some None os xs h = absurd (none-some xs h)
+first_some (Some a) os xs h = let rest = mapped (λ rest. a ∷ rest) (all_some os) xs h in record { value = a; rest = rest.0; is = refl; others = rest.1; all = sym rest.2 }
+
+-- ---- calls
+-- what the variable for a parameter holds, by the shapes of types
+abbrev pub parameter_shape : List Shape → Parameter → Option Shape
+parameter_shape shapes p = held_in shapes (passing_by p.by_place) p.sort
+
+-- a procedure of this procedure type may be called, by its number from 1. Its first variables hold what those for its parameters do, and it
+-- returns what its type says
+pub record IsReached (t : Table) (ts : Scope) (s n levels : ℕ) : Type 0 where
+  pub may : MayCall ts (n + 1) levels
+  pub takes : (shapes : List Shape) → shaping.shapes t ≡ Some shapes → all_some (map (parameter_shape shapes) (parameters t s)) ≡ Some (parameters_of (procedure_by ts.procedures (n + 1)))
+  pub returns : result_of (procedure_by ts.procedures (n + 1)) ≡ returned t (result t s)
+
+-- what names reach
+abbrev pub Calls : Table → Reach → Scope → Type 0
+Calls t R ts = (s n levels : ℕ) → R s n levels → IsReached t ts s n levels
+
 -- ---- what designators may reach
 -- this lies in the records of the WITHs around, from the innermost out, by the shapes of types
 abbrev pub AreHeld : List Shape → List ℕ → List Shape → Type 0
 AreHeld shapes around held = (w n : ℕ) → slice_get around w ≡ Some n → (x : Shape) × (slice_get shapes n ≡ Some x) × (slice_get held (length around - 1 - w) ≡ Some x) × (is_there x ≡ true)
 
 -- what the variables that are seen hold, what lies in the records of the WITHs around, and what behind its pointers, is this, by the shapes
--- of its types; and those that hold addresses are parameters
-pub record Fits (t : Table) (vs : RNamed → Option RVar) (around : List ℕ) (ts : Scope) : Type 0 where
+-- of its types; those that hold addresses are parameters; and the procedures that names reach may be called
+pub record Fits (t : Table) (vs : RNamed → Option RVar) (around : List ℕ) (R : Reach) (ts : Scope) : Type 0 where
   pub shapes : List Shape
   pub types : shaping.shapes t ≡ Some shapes
   pub targets : ts.targets ≡ targets t shapes
   pub variables : (n : RNamed) (v : RVar) → vs n ≡ Some v → (x : Shape) × (lying shapes v ≡ Some x) × (variable_at ts (named_view n) ≡ Some x)
   pub handed : (l x : ℕ) (v : RVar) → vs (named.Level l x) ≡ Some v → v.mode ≡ Place → slice_get (parameters_at ts l) x ≡ slice_get (locals_at ts l) x
   pub held : AreHeld shapes around ts.held
+  pub calls : Calls t R ts
 
 -- what the variables of a procedure hold, and which of them are parameters
 pub record IsOutlined (shapes : List Shape) (vs : List RVar) (o : Outline) : Type 0 where
@@ -98,14 +127,15 @@ module _ (t : Table) (vs : List RVar) (ls : List (List RVar)) (shapes lies : Lis
   shown (named.Module x) v is = some_at (lying shapes) vs lies x v (within_is (all_some (map (lying shapes) vs)) lies variables) is
   shown (named.Level l x) v is = level_shown l x v (slice_get chain l) refl is
 
-  pub outside : Fits t (seen_in vs ls chain) [] around_none
-  outside = record {
+  pub outside : (R : Reach) → Calls t R around_none → Fits t (seen_in vs ls chain) [] R around_none
+  outside R calls = record {
     shapes = shapes;
     types = types;
     targets = refl;
     variables = shown;
     handed = λ l x v is mode. level_handed l x v (slice_get chain l) refl is mode;
     held = λ w n is. absurd (none-some n is);
+    calls = calls;
   }
 
 -- a place lies in what is reached, and has the shape of its type
@@ -121,7 +151,7 @@ placed_as shapes ts p s d is at good = record { shape = at ∙ ap (λ d. Some (s
 abbrev pub Runs : Scope → RExpr → Type 0
 Runs ts x = IsSoundExpression ts (expression_of x)
 
-pub has_shape : {t : Table} {vs : RNamed → Option RVar} {around : List ℕ} {ts : Scope} (fits : Fits t vs around ts) (n : ℕ) (x : Shape) → slice_get fits.shapes n ≡ Some x → HasShape t fits.shapes n x
+pub has_shape : {t : Table} {vs : RNamed → Option RVar} {around : List ℕ} {R : Reach} {ts : Scope} (fits : Fits t vs around R ts) (n : ℕ) (x : Shape) → slice_get fits.shapes n ≡ Some x → HasShape t fits.shapes n x
 has_shape {t} fits n x is = (all_known t fits.shapes fits.types).1 n x is
 
 -- ---- inside of a WITH
@@ -144,8 +174,8 @@ same_variables ts x (OfModule i) = refl
 same_variables ts x (OfLevel l i) = refl
 
 -- what lies somewhere is the innermost record
-pub deeper : {t : Table} {vs : RNamed → Option RVar} {around : List ℕ} {ts : Scope} (fits : Fits t vs around ts) (p : Located) → IsPlaced fits.shapes ts p → is_there (shape_of ts (place_of p.place)) ≡ true
-    → Fits t vs (around ++ p.sort ∷ []) (with_held ts (shape_of ts (place_of p.place)))
+pub deeper : {t : Table} {vs : RNamed → Option RVar} {around : List ℕ} {R : Reach} {ts : Scope} (fits : Fits t vs around R ts) (p : Located) → IsPlaced fits.shapes ts p → is_there (shape_of ts (place_of p.place)) ≡ true
+    → Fits t vs (around ++ p.sort ∷ []) R (with_held ts (shape_of ts (place_of p.place)))
 deeper {around} {ts} fits p h there = record {
   shapes = fits.shapes;
   types = fits.types;
@@ -153,4 +183,5 @@ deeper {around} {ts} fits p h there = record {
   variables = λ n v is. let one = fits.variables n v is in (one.0, one.1, same_variables ts (shape_of ts (place_of p.place)) (named_view n) ∙ one.2);
   handed = fits.handed;
   held = more_held fits.shapes around ts.held p.sort (shape_of ts (place_of p.place)) fits.held h.shape there;
+  calls = λ s n levels reached. let c = fits.calls s n levels reached in record { may = record { its = c.may.its; known = c.may.known; declared = c.may.declared }; takes = c.takes; returns = c.returns };
 }

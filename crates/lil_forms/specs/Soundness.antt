@@ -1,29 +1,29 @@
 -- Soundness, in what lies in the variables that are seen and in the records of the WITHs around.
-use Rattle.std.proofs.Common.{◌≡◌, ℕ, ◌≤◌, ℤ, true, List, [], ◌∷◌, ◌++◌, map, length, slice_get, Option, None, Some, IfSome, refl, sym, ap, ◌∙◌, subst}
-use Rattle.std.specs.Prelude.{◌-◌, ◌==◌}
+use Rattle.std.proofs.Common.{◌≡◌, ℕ, ◌≤◌, ℤ, true, ◌+◌, false, List, [], ◌∷◌, ◌++◌, map, length, slice_get, Option, None, Some, IfSome, inl, inr, refl, sym, ap, ◌∙◌, subst}
+use Rattle.std.specs.Prelude.{◌-◌, ◌==◌, option_and_then}
 use Rattle.std.specs.Option.{option_map}
 use Rattle.std.proofs.lemmas.Option.{none-some, cond_some, same_Some}
 use Rattle.lil_base.specs.declared.operator.{OneOp.OneOp, TwoOp.{TwoOp, TheVariants.{Or, And}}}
-use Rattle.lil_types.specs.Types.{Table, char, base}
+use Rattle.lil_types.specs.{Types.{Table, char, base}, declared.table.Parameter.Parameter}
 use Rattle.lil_declared.specs.declared.declared.{Mode.Mode, RVar.RVar}
 use Rattle.lil_declared.specs.declared.declared.Mode.TheVariants as mode
-use Rattle.lil_kinds.specs.declared.found.Located.{Located}
-use Rattle.lil_resolved.specs.{Bases.own_base, Chains.set_kind, Kinds.{Kind, OfCharacter, OfSet, is_base, Shape, Address, Scope, Word, Row, element_of as elements, count_of, is_there, led_to, parameters_at, shape_by, shape_at}, Sizes.place_depth, Resolved.{variable_at, shape_of, Expression, Two, kind_of, right_kind}}
-use Rattle.lil_resolved.specs.Views.{field_is, index_is, follow_is, one_is, apply_is, chain_is, set_is, single_is, span_is, constant_is, taken_is, kind_view, held_by, named_view, base_view, expression_of, place_of, two_of, chained, with_members, empty_set, function_of, member_of, operation_of}
-use Rattle.lil_resolved.specs.declared.resolved.{RBase.RBase, RExpr.RExpr, RFunction.RFunction, RKind.RKind, RMember.RMember, RNamed.RNamed, ROperation.ROperation, RPassing.RPassing, RRoot.RRoot}
+use Rattle.lil_kinds.specs.{Forms.{parameters, result}, declared.found.Located.Located}
+use Rattle.lil_resolved.specs.{Bases.own_base, Chains.set_kind, Kinds.{Kind, OfCharacter, OfSet, is_base, Shape, Address, Scope, Word, Row, element_of as elements, count_of, is_there, led_to, parameters_at, parameters_of, procedure_by, shape_by, shape_at}, Sizes.place_depth, Resolved.{variable_at, shape_of, Argument, ByValue, OfPlace, OfAll, Expression, Two, kind_of, right_kind}}
+use Rattle.lil_resolved.specs.Views.{by_value_is, of_place_is, of_all_is, invoke_is, argument_of, arguments_of, field_is, index_is, follow_is, one_is, apply_is, chain_is, set_is, single_is, span_is, constant_is, taken_is, kind_view, held_by, named_view, base_view, expression_of, place_of, two_of, chained, with_members, empty_set, function_of, member_of, operation_of}
+use Rattle.lil_resolved.specs.declared.resolved.{RArgument.RArgument, RBase.RBase, RExpr.RExpr, RFunction.RFunction, RKind.RKind, RMember.RMember, RNamed.RNamed, ROperation.ROperation, RPassing.RPassing, RRoot.RRoot}
 use Rattle.lil_resolved.specs.declared.resolved.RNamed.TheVariants as named
 use Rattle.lil_resolved.specs.declared.resolved.RPassing.TheVariants as passing
 use Rattle.lil_resolved.specs.Resolved as resolved
 use Rattle.lil_resolved.specs.Sound as sound
-use Rattle.lil_resolved.specs.Sound.{IsScalar, IsSoundTarget, IsSoundExpression}
+use Rattle.lil_resolved.specs.Sound.{IsScalar, IsSoundTarget, IsSoundExpression, IsSoundArgument, AreSoundArguments, IsSingle, AreSingle, parameter_of, parameters_given}
 use Rattle.lil_resolved.specs.declared.resolved.RBase.TheVariants as b
 use Rattle.lil_resolved.specs.declared.resolved.RExpr.TheVariants as e
 use Rattle.lil_resolved.specs.declared.resolved.RMember.TheVariants as m
 use Rattle.lil_resolved.specs.declared.resolved.RRoot.TheVariants as root
 use Rattle.lil_resolved.specs.declared.resolved.RSelector.TheVariants as part
-use Rattle.lil_shapes.specs.{declared.{composites.ArrayParts.ArrayParts, pointers.Target.Target}, Bases.{plain, kind_at, numbers_of, characters_in, characters_at, field_at, array_at, composite_at}, Pointers.target_at, Shaping.{there, passing_of, held_as}, BaseLaws.{if_some, same_sort, base_words, kind_base, literal_sound}}
+use Rattle.lil_shapes.specs.{declared.{composites.ArrayParts.ArrayParts, pointers.Target.Target}, Bases.{plain, kind_at, numbers_of, characters_in, characters_at, field_at, array_at, composite_at}, Pointers.target_at, Shaping.{all_some, there, passing_of, held_as, held_in}, BaseLaws.{if_some, same_sort, base_words, kind_base, literal_sound}}
 use Rattle.lil_shapes.specs.{ShapeSound.{mapped, field_shaped, element_shaped, composite_shaped, word_shaped}, TargetSound.{PointsTo, all_known, target_shaped}, Operators.{takes_two, is_a_truth, has_number}}
-use Rattle.lil_forms.specs.{Places.{root_of, at_root, part_of}, Values.operation, Parts.{placed_is, further_is, chained_more, members_more}, Scopes.{Fits, IsPlaced, placed_as, Runs, has_shape}, Properties.{Property, value_kind}}
+use Rattle.lil_forms.specs.{Places.{root_of, at_root, part_of}, Values.{operation, returned}, Parts.{placed_is, further_is, chained_more, members_more}, Scopes.{Fits, IsPlaced, placed_as, Runs, has_shape, first_some, parameter_shape}, Properties.{Reach, IsValueFor, IsPlaceFor, IsWholeFor, IsHanded, AreHanded, Property, value_kind}, Variables.passing_by}
 
 -- elements that are words are those of an array
 row_is : (x : Shape) (k : Kind) → elements x ≡ Word k → x ≡ Row (count_of x) (Word k)
@@ -34,7 +34,7 @@ pub there_is : (o : Option Shape) (s : Shape) → there o ≡ Some s → (o ≡ 
 there_is None s h = absurd (none-some s h)
 there_is (Some x) s h = let c = cond_some (is_there x) x s h in (ap Some c.1, ap is_there (sym c.1) ∙ c.0)
 
-module _ {t : Table} {vs : RNamed → Option RVar} {around : List ℕ} {ts : Scope} (fits : Fits t vs around ts) where
+module _ {t : Table} {vs : RNamed → Option RVar} {around : List ℕ} {R : Reach} {ts : Scope} (fits : Fits t vs around R ts) where
   abbrev pub Lies : Located → Type 0
   Lies p = IsPlaced fits.shapes ts p
 
@@ -128,6 +128,70 @@ module _ {t : Table} {vs : RNamed → Option RVar} {around : List ℕ} {ts : Sco
           let has = has_shape fits char (elements x) (ap (slice_get fits.shapes) (sym (same_sort parts.element char both.0)) ∙ row.0) in
           row_is x OfCharacter (word_shaped t fits.shapes char (elements x) has (plain b.Character) refl) ∙ ap (λ n. Row n (Word OfCharacter)) (row.1 ∙ kind.2)
 
+  -- ---- calls of functions, and what they are handed
+  -- a sound argument for a parameter whose variable holds this
+  pub record IsPassed (y : Shape) (a : RArgument) : Type 0 where
+    pub shape : y ≡ parameter_of ts (argument_of a)
+    pub sound : IsSoundArgument ts (argument_of a)
+    pub single : IsSingle (argument_of a)
+
+  passed_as : (y : Shape) (a : RArgument) (x : Argument) → argument_of a ≡ x → y ≡ parameter_of ts x → IsSoundArgument ts x → IsSingle x → IsPassed y a
+  passed_as y a x is shape good single = record { shape = shape ∙ ap (parameter_of ts) (sym is); sound = subst (IsSoundArgument ts) (sym is) good; single = subst IsSingle (sym is) single }
+
+  -- it has the shape of what lies at a place of the parameter's type
+  shape_there : (p : Parameter) (c : RPassing) (y : Shape) → passing_of (passing_by p.by_place) ≡ Some c → parameter_shape fits.shapes p ≡ Some y → (x : Shape) × (slice_get fits.shapes p.sort ≡ Some x) × (is_there x ≡ true) × (y ≡ held_by c x)
+  shape_there p c y passed lies =
+      let held = mapped (held_by c) (there (slice_get fits.shapes p.sort)) y (ap (λ o. held_as o (there (slice_get fits.shapes p.sort))) (sym passed) ∙ lies) in
+      let here = there_is (slice_get fits.shapes p.sort) held.0 held.1 in
+      (held.0, here.0, here.1, sym held.2)
+
+  same_shape : (p : Parameter) (at : Located) (x : Shape) → at.sort ≡ p.sort → Lies at → slice_get fits.shapes p.sort ≡ Some x → x ≡ shape_of ts (place_of at.place)
+  same_shape p at x sort lies here = same_Some x (shape_of ts (place_of at.place)) (sym here ∙ ap (slice_get fits.shapes) (sym sort) ∙ lies.shape)
+
+  value_passed : (p : Parameter) (a : RArgument) (y : Shape) → parameter_shape fits.shapes p ≡ Some y → IsValueFor t Lies (Runs ts) p a → IsPassed y a
+  value_passed p a y lies h =
+      let x = shape_there p passing.ByValue y (ap (λ c. passing_of (passing_by c)) h.by_value) lies in
+      let word = word_shaped t fits.shapes p.sort x.0 (has_shape fits p.sort x.0 x.1) h.kind h.at in
+      passed_as y a (ByValue (kind_view h.kind) (expression_of h.value)) (ap argument_of h.is ∙ by_value_is h.kind h.value) (x.3 ∙ word) (h.stores, h.shallow, h.good) tt
+
+  place_passed : (p : Parameter) (a : RArgument) (y : Shape) → parameter_shape fits.shapes p ≡ Some y → IsPlaceFor t Lies (Runs ts) p a → IsPassed y a
+  place_passed p a y lies h =
+      let x = shape_there p passing.ByPlace y (ap (λ c. passing_of (passing_by c)) h.by_place) lies in
+      let same = same_shape p h.at x.0 h.sort h.good x.1 in
+      passed_as y a (OfPlace (place_of h.at.place)) (ap argument_of h.is ∙ of_place_is h.at.place) (x.3 ∙ ap Address same) (ap is_there (sym same) ∙ x.2, h.shallow, h.good.good) tt
+
+  whole_passed : (p : Parameter) (a : RArgument) (y : Shape) → parameter_shape fits.shapes p ≡ Some y → IsWholeFor t Lies (Runs ts) p a → IsPassed y a
+  whole_passed p a y lies h =
+      let x = shape_there p passing.ByValue y (ap (λ c. passing_of (passing_by c)) h.by_value) lies in
+      let same = same_shape p h.at x.0 h.sort h.good x.1 in
+      passed_as y a (OfAll (place_of h.at.place)) (ap argument_of h.is ∙ of_all_is h.at.place) (x.3 ∙ same) (ap is_there (sym same) ∙ x.2, h.shallow, h.good.good) tt
+
+  one_passed : (p : Parameter) (a : RArgument) (y : Shape) → parameter_shape fits.shapes p ≡ Some y → IsHanded t Lies (Runs ts) p a → IsPassed y a
+  one_passed p a y lies (inl h) = value_passed p a y lies h
+  one_passed p a y lies (inr (inl h)) = place_passed p a y lies h
+  one_passed p a y lies (inr (inr h)) = whole_passed p a y lies h
+
+  pub record ArePassed (ys : List Shape) (xs : List RArgument) : Type 0 where
+    pub takes : ys ≡ parameters_given ts (arguments_of xs)
+    pub sound : AreSoundArguments ts (arguments_of xs)
+    pub single : AreSingle (arguments_of xs)
+
+  pub all_passed : (ps : List Parameter) (xs : List RArgument) (ys : List Shape) → all_some (map (parameter_shape fits.shapes) ps) ≡ Some ys → AreHanded t Lies (Runs ts) ps xs → ArePassed ys xs
+  all_passed [] [] ys lies h = record { takes = sym (same_Some [] ys lies); sound = tt; single = tt }
+  all_passed [] (a ∷ xs) ys lies h = absurd h
+  all_passed (p ∷ ps) [] ys lies h = absurd h
+  all_passed (p ∷ ps) (a ∷ xs) ys lies h =
+      let first = first_some (parameter_shape fits.shapes p) (map (parameter_shape fits.shapes) ps) ys lies in
+      let one = one_passed p a first.value first.is h.0 in
+      let rest = all_passed ps xs first.rest first.others h.1 in
+      record { takes = first.all ∙ (λ i. one.shape i ∷ rest.takes i); sound = (one.sound, rest.sound); single = (one.single, rest.single) }
+
+  pub invoke_sound : (s n levels r : ℕ) (j : RKind) (xs : List RArgument) → R s n levels → result t s ≡ Some r → kind_at t r ≡ Some j → AreHanded t Lies (Runs ts) (parameters t s) xs → Runs ts (e.Invoke (n + 1) levels j xs)
+  invoke_sound s n levels r j xs reached returns at all =
+      let c = fits.calls s n levels reached in
+      let g = all_passed (parameters t s) xs (parameters_of (procedure_by ts.procedures (n + 1))) (c.takes fits.shapes fits.types) all in
+      subst (IsSoundExpression ts) (sym (invoke_is (n + 1) levels j xs)) (c.may, c.returns ∙ ap (returned t) returns ∙ ap (option_map kind_view) at, g.takes, g.sound, g.single)
+
 -- ---- expressions
 module _ (ts : Scope) where
   pub constant_sound : (k : RBase) (z : ℤ) → has_number k z ≡ true → Runs ts (e.Constant k z)
@@ -170,7 +234,7 @@ module _ (ts : Scope) where
       → Runs ts (e.Set k ms) → Runs ts x → Runs ts y → Runs ts (e.Set k (ms ++ m.Span x y ∷ []))
   span_sound k ms x y of takes last h i j = member_sound k ms (m.Span x y) _ (span_is x y) (λ is good. (is, good, of, takes, last, i, j)) h
 
-abbrev pub soundness : {t : Table} {vs : RNamed → Option RVar} {around : List ℕ} {ts : Scope} → Fits t vs around ts → Property t vs around
+abbrev pub soundness : {t : Table} {vs : RNamed → Option RVar} {around : List ℕ} {R : Reach} {ts : Scope} → Fits t vs around R ts → Property t vs around R
 soundness {ts} fits = record {
   place = Lies fits;
   value = Runs ts;
@@ -183,6 +247,7 @@ soundness {ts} fits = record {
   taken = λ p j is h. subst (IsSoundExpression ts) (sym (taken_is p.place j)) (scalar fits p j is h, h.good);
   one = one_sound ts;
   apply = apply_sound ts;
+  invoke = invoke_sound fits;
   begin = begin_sound ts;
   chain = chain_sound ts;
   empty = λ k. subst (IsSoundExpression ts) (sym (set_is k [])) refl;

@@ -7,8 +7,9 @@ use Rattle.lil_declared.specs.declared.standard.Resident.TheVariants as resident
 use Rattle.lil_kinds.specs.declared.found.{Form.Form, Found.Found, Located.Located}
 use Rattle.lil_kinds.specs.declared.found.Form.TheVariants as form
 use Rattle.lil_resolved.specs.Views.{kind_view}
-use Rattle.lil_resolved.specs.declared.resolved.{Allocation.{Allocation, TheVariants.{Takes, GivesBack}}, Direction.Direction, Membership.Membership, RArgument.RArgument, RExpr.RExpr, RKind.RKind, RPlace.RPlace, RStmt.RStmt}
+use Rattle.lil_resolved.specs.declared.resolved.{Allocation.{Allocation, TheVariants.{Takes, GivesBack}}, Direction.Direction, Membership.Membership, RArgument.{RArgument, out-RArgument, TheOpen.RArgument-F}, RExpr.RExpr, RKind.RKind, RMember.RMember, ROperation.ROperation, RPlace.RPlace, RSelector.RSelector, RStmt.RStmt}
 use Rattle.lil_resolved.specs.declared.resolved.RArgument.TheVariants as given
+use Rattle.lil_resolved.specs.declared.resolved.RArgument.TheOpen as x
 use Rattle.lil_resolved.specs.declared.resolved.RExpr.TheVariants as e
 use Rattle.lil_resolved.specs.declared.resolved.RStmt.TheVariants as s
 use Rattle.lil_base.specs.declared.request.Request as requests
@@ -137,13 +138,13 @@ abbrev pub whole_given : Option Located → Option RArgument
 whole_given None = None
 whole_given (Some p) = Some (given.All p.place)
 
--- ---- values: those of arrays and records have no kind
+-- ---- values: an array or a record goes over as a whole
 abbrev pub value_as : RKind → Option RExpr → Option RArgument
 value_as j None = None
 value_as j (Some x) = Some (given.Value j x)
 
 abbrev pub value_by : Table → ℕ → Option RKind → Found → Option RArgument
-value_by t s None a = whole_given (located_in a.form)
+value_by t s None a = if composite_at t s then whole_given (located_in a.form) else None
 value_by t s (Some j) a = value_as j (typed t s a)
 
 -- ---- what a call is handed, argument by argument, where all of it has code
@@ -186,19 +187,32 @@ request None xs = None
 request (Some r) xs = Some (s.Request r xs)
 
 -- the place, and the value, that an argument is
+abbrev pub place_of_layer : RArgument-F RArgument RExpr RMember RSelector ROperation RPlace → Option RPlace
+place_of_layer (x.Value j a) = None
+place_of_layer (x.Place p) = Some p
+place_of_layer (x.All p) = None
+place_of_layer (x.Array p high) = None
+place_of_layer (x.Text cs) = None
+
 abbrev pub place_in : RArgument → Option RPlace
-place_in (given.Place p) = Some p
-place_in _ = None
+place_in a = place_of_layer (out-RArgument a)
+
+abbrev pub value_of_layer : RArgument-F RArgument RExpr RMember RSelector ROperation RPlace → Option RExpr
+value_of_layer (x.Value j a) = Some a
+value_of_layer (x.Place p) = None
+value_of_layer (x.All p) = None
+value_of_layer (x.Array p high) = None
+value_of_layer (x.Text cs) = None
 
 abbrev pub value_in : RArgument → Option RExpr
-value_in (given.Value j x) = Some x
-value_in _ = None
+value_in a = value_of_layer (out-RArgument a)
 
 -- of a place and a number of words
 abbrev pub allocation : Allocation → List RArgument → Option RStmt
 allocation way [] = None
 allocation way (a ∷ []) = None
-allocation way (a ∷ b ∷ xs) = allocated way (place_in a) (value_in b)
+allocation way (a ∷ b ∷ []) = allocated way (place_in a) (value_in b)
+allocation way (a ∷ b ∷ c ∷ xs) = None
 
 abbrev pub called_by : Option Allocation → Option requests.Request → List RArgument → Option RStmt
 called_by (Some way) r xs = allocation way xs

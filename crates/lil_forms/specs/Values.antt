@@ -1,5 +1,5 @@
 -- The values of operands: expressions that run, where there are any, and the forms of operators, sets and standard functions over them.
-use Rattle.std.specs.Prelude.{ℕ, List, [], ◌∷◌, ◌++◌, Option, Some, None, ℤ, pos}
+use Rattle.std.specs.Prelude.{ℕ, List, [], ◌∷◌, ◌++◌, Option, Some, None, option_and_then, ℤ, pos}
 use Rattle.std.specs.Option.{option_map}
 use Rattle.lil_base.specs.declared.operator.{OneOp.OneOp, TwoOp.TwoOp}
 use Rattle.lil_types.specs.Types.{Table, base}
@@ -9,6 +9,8 @@ use Rattle.lil_scope.specs.declared.thing.Kind.{Kind}
 use Rattle.lil_scope.specs.declared.thing.Kind.TheVariants as k
 use Rattle.lil_kinds.specs.declared.found.{Form.Form, Found.Found, Located.Located}
 use Rattle.lil_kinds.specs.declared.found.Form.TheVariants as form
+use Rattle.lil_resolved.specs.Views.{kind_view}
+use Rattle.lil_resolved.specs.Kinds as kinds
 use Rattle.lil_resolved.specs.declared.resolved.{RBase.RBase, RExpr.RExpr, RFunction.RFunction, RKind.RKind, RMember.RMember, ROperation.{ROperation, roll-ROperation}}
 use Rattle.lil_resolved.specs.declared.resolved.RBase.TheVariants as b
 use Rattle.lil_resolved.specs.declared.resolved.RExpr.TheVariants as e
@@ -16,6 +18,10 @@ use Rattle.lil_resolved.specs.declared.resolved.RFunction.TheVariants as f
 use Rattle.lil_resolved.specs.declared.resolved.RMember.TheVariants as m
 use Rattle.lil_shapes.specs.{declared.members.Members.Members, Bases.{kind_at, base_at, members_at}}
 use Rattle.lil_forms.specs.declared.operators.Built.{Built}
+
+-- ---- the kind of what a procedure returns, by the type of its result
+abbrev pub returned : Table → Option ℕ → Option kinds.Kind
+returned t r = option_map kind_view (option_and_then (kind_at t) r)
 
 -- ---- constants of a base, by their numbers
 abbrev pub constant : Option RBase → ℤ → Option RExpr

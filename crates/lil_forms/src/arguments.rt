@@ -1,4 +1,5 @@
-ghost use Rattle.std.specs.Prelude.{◌≡◌, IfOk};
+ghost use Rattle.std.specs.Prelude.{◌≡◌, None, if◌then◌else◌, IfOk};
+ghost use Rattle.lil_shapes.specs.Bases.{composite_at};
 ghost use Rattle.lil_forms.specs.Statements as spec;
 
 use crate::sets::allocated;
@@ -7,7 +8,7 @@ use lil_base::{Items, Memory, Request, joined};
 use lil_declared::Resident;
 use lil_kinds::{Form, Found, Located};
 use lil_resolved::{Allocation, RArgument, RExpr, RKind, RPlace, RStmt};
-use lil_shapes::{characters_at, kind_at};
+use lil_shapes::{characters_at, composite_at, kind_at};
 use lil_types::{Parameter, TypeId, TypeTable};
 use std::alloc::Global;
 
@@ -54,12 +55,24 @@ fn string_given(t: &TypeTable, of: Form) -> Option<RArgument>
     }
 }
 
-/// A value for a parameter of a type that has a kind.
+/// All of an array or a record, for a parameter by value.
+fn composite_by(t: &TypeTable, sort: TypeId, of: Form) -> Option<RArgument>
+    ensures { result ≡ if composite_at t.now sort then spec.whole_given (spec.located_in of) else None }
+{
+    if composite_at(t, sort) {
+        whole_given(located_in(of))
+    } else {
+        drop(of);
+        None
+    }
+}
+
+/// A value for a parameter: one of a kind, or all of an array or a record.
 fn value_by(t: &TypeTable, sort: TypeId, kind: Option<RKind>, of: Found) -> Option<RArgument>
     ensures { result ≡ spec.value_by t.now sort kind of }
 {
     let Some(kind) = kind else {
-        return whole_given(located_in(of.form));
+        return composite_by(t, sort, of.form);
     };
     match typed(t, sort, of) {
         None => None,
@@ -201,8 +214,12 @@ fn allocation(way: Allocation, given: Items<RArgument>) -> Option<RStmt>
                 None
             }
             Some(words) => {
-                drop(left);
-                allocated(way, place_in(place), value_in(words))
+                if left.is_empty() {
+                    allocated(way, place_in(place), value_in(words))
+                } else {
+                    drop((place, words, left));
+                    None
+                }
             }
         },
     }

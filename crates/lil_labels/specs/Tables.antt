@@ -1,6 +1,6 @@
 -- The tables of a module: where its variables lie, what its shapes have, and to what its pointers point; and the records of the WITHs around.
-use Rattle.std.specs.{Prelude.{◌≡◌, ℕ, suc, ◌+◌, ◌-◌, ◌*◌, ◌≤◌, min, List, [], ◌∷◌, length, Option, Some, None, option_and_then, map, slice_get, nat_lt, if◌then◌else◌}, List.All}
-use Rattle.lil_resolved.specs.{declared.{resolved.{RDeclared.RDeclared, RHeading.RHeading}, shapes.{RField.RField, RElements.RElements, RShape.RShape}}, Kinds.{Outline, Shape, words, shape_at, procedure_by}, Resolved.{Named, OfModule, OfLevel}, Views.{AreMeasured, IsMeasuredHeading, offset_of, shape_declared, locals_of, shapes_of}}
+use Rattle.std.specs.{Option.option_map, Prelude.{◌≡◌, ℕ, suc, ◌+◌, ◌-◌, ◌*◌, ◌≤◌, min, List, [], ◌∷◌, length, Option, Some, None, option_and_then, map, slice_get, nat_lt, if◌then◌else◌}, List.All}
+use Rattle.lil_resolved.specs.{declared.{resolved.{RDeclared.RDeclared, RHeading.RHeading}, shapes.{RField.RField, RElements.RElements, RShape.RShape}}, Kinds.{Outline, Shape, words, shape_at, procedure_by}, Resolved.{Named, OfModule, OfLevel}, Views.{kind_view, AreMeasured, IsMeasuredHeading, offset_of, shape_declared, locals_of, shapes_of}}
 use Rattle.lil_resolved.specs.declared.shapes.RShape.TheVariants as r
 use Rattle.lil_table.specs.Rows.{Layout}
 use Rattle.lil_labels.specs.declared.buffer.HeldRecord.{HeldRecord}
@@ -40,7 +40,7 @@ declared_at t (OfLevel n x) = slice_get (locals_in (heading_out t.procedures t.o
 
 -- what names elsewhere need of a procedure
 abbrev pub outline_with : List RShape → RHeading → Outline
-outline_with ts h = record { around = h.around; locals = locals_of ts h; parameters = h.parameters }
+outline_with ts h = record { around = h.around; locals = locals_of ts h; parameters = h.parameters; result = option_map kind_view h.result }
 
 -- where a variable lies, and the number of its shape; zeros where there is none
 abbrev pub variable_by : Option RDeclared → RField

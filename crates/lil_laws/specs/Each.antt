@@ -1,14 +1,14 @@
 -- One step of the source, from any matched state.
 use Rattle.std.proofs.Common.{◌≡◌, ℕ, ◌+◌, true, false, List, [], ◌∷◌, refl, sym, ◌⊎◌, ⊎_elim, arith}
 use Rattle.std.specs.Prelude.{ℤ}
-use Rattle.lil_resolved.specs.{Kinds.{Kind, Scalar, within}, Resolved.{Named, Designator, Variable, Handed, Held, Field, Element, Follow, Expression, Constant, Taken, One, Two, Short, Apply, With, WithSpan, Assign, Copy, Text, Inside, Change, Member, New, Allocate, Request, If, Case, While, Repeat, Loop, Exit, Halt, Return, Call, For, Statements, Argument}}
-use Rattle.lil_meaning.specs.Items.{Place, Scalars, Places, Wholes, Opens, Texts, Hole, Get, Part, IndexBy, IndexAt, Pointed, SetTo, StoreAt, CopyTo, CopyFrom, TextTo, NewAt, AllocateBy, AllocateAt, ChangeBy, ChangeAt, OneOf, LeftOf, RightOf, ShortOf, ApplyTo, WithMember, MemberOf, WithMembers, MembersFrom, MembersTo, MemberBy, MemberAt, Requested, Called, Datum, Pass, PassPlace, PassAll, PassArray, Choose, Turn, Again, Pick, Hold, StartOf, LimitOf, Task, Do, Passing, Until, Looping, Turns, Holding, End, Item, Value, Evaluate, PlaceOf, Fill, Perform, Source}
+use Rattle.lil_resolved.specs.{Kinds.{Kind, Scalar, within}, Resolved.{Named, Designator, Variable, Handed, Held, Field, Element, Follow, Expression, Constant, Taken, One, Two, Short, Apply, With, WithSpan, Invoke, Assign, Copy, Text, Inside, Change, Member, New, Allocate, Request, If, Case, While, Repeat, Loop, Exit, Halt, Return, Answer, Call, For, Statements, Argument, Arguments, NoMore, Also}}
+use Rattle.lil_meaning.specs.Items.{Place, Scalars, Places, Wholes, Opens, Texts, Hole, Get, Part, IndexBy, IndexAt, Pointed, SetTo, StoreAt, CopyTo, CopyFrom, TextTo, NewAt, AllocateBy, AllocateAt, ChangeBy, ChangeAt, OneOf, LeftOf, RightOf, ShortOf, ApplyTo, WithMember, MemberOf, WithMembers, MembersFrom, MembersTo, MemberBy, MemberAt, Requested, Called, Datum, Pass, PassPlace, PassAll, Returning, PassArray, Choose, Turn, Again, Pick, Hold, StartOf, LimitOf, Task, Do, Passing, Until, Looping, Turns, Holding, End, Item, Value, Evaluate, PlaceOf, Fill, Perform, Source}
 use Rattle.lil_mcode.specs.Table.{State, going}
 use Rattle.lil_match.specs.{Homes.{word_for, Refers}, Goes.{Shared, Goes}, Waits.{Setting, frame_of, Mode, Quiet, ValueOf, AtPlace, Around, Reach, AfterJumps, BeginWaits, NextWaits, ItemWaits, PendingWaits, RowsOf, Rows, Ahead, Designates, Waiting}, Steps.jumped}
 use Rattle.lil_laws_place.specs.Elements.{variable_goes, handed_goes, held_goes, field_goes, element_goes, follow_goes, pointed_goes, part_goes, index_by_goes, index_at_goes}
 use Rattle.lil_laws_expr.specs.{Expressions.{constant_goes, taken_goes, one_goes, two_goes, short_begins, apply_goes, get_goes, one_of_goes, left_goes, right_goes, short_of_goes, apply_of_goes}, Sets.{with_goes, with_span_goes, with_member_goes, member_of_goes, with_members_goes, members_from_goes, members_to_goes}}
 use Rattle.lil_laws_stmt.specs.{Tasks.{copy_goes, copy_to_goes, copy_from_goes, assign_goes, set_goes, store_goes}, Requests.{request_goes, passing_goes, pass_goes, pass_array_goes, serve_goes}, Strings.{text_goes, text_to_goes}, News.{new_goes, new_at_goes}, Withs.{inside_goes, hold_goes, holding_goes}}
-use Rattle.lil_laws_stmt.specs.{Control.{if_goes, choose_goes, while_goes, turn_goes, repeat_goes, until_goes, again_goes, loop_goes, looping_goes}, Changes.{change_goes, change_by_goes, change_at_goes}, Exits.exit_goes, Calls.{call_goes, argument_goes, given_goes, given_place_goes, given_all_goes}, Enters.enter_goes, Members.{member_goes, member_by_goes, member_at_goes}, Ends.{halt_goes, return_goes, end_goes, ended_goes}}
+use Rattle.lil_laws_stmt.specs.{Control.{if_goes, choose_goes, while_goes, turn_goes, repeat_goes, until_goes, again_goes, loop_goes, looping_goes}, Changes.{change_goes, change_by_goes, change_at_goes}, Exits.exit_goes, Calls.{call_goes, invoke_goes, argument_goes, given_goes, given_place_goes, given_all_goes}, Enters.enter_goes, Members.{member_goes, member_by_goes, member_at_goes}, Ends.{halt_goes, return_goes, end_goes, returning_goes, answer_goes, ended_goes}}
 use Rattle.lil_laws_stmt.specs.{Allocations.{allocate_goes, allocate_by_goes, allocate_at_goes, deallocate_at_goes}, Cases.{case_goes, pick_goes}, Fors.{for_goes, start_goes, limit_goes, next_goes}, Begins.begin_goes}
 
 value_quiet : (k : Kind) → ValueOf k ≡ Quiet → ⊥
@@ -48,6 +48,7 @@ module _ (ctx : Setting) where
     scalar_step v (Pass (Called x n) j done left) kind fits refers below is r = given_goes ctx s k m c a shared x n j done left v kind fits refers below is r
     scalar_step v (PassPlace (Called x n) done left) kind fits refers below is r = absurd (value_place kind r.of r.mode)
     scalar_step v (PassAll (Called x n) done left) kind fits refers below is r = absurd (value_place kind r.of r.mode)
+    scalar_step v (Returning to) kind fits refers below is r = returning_goes ctx s k m c a shared to v kind fits refers below is r
     scalar_step v (Choose first second) kind fits refers below is r = choose_goes ctx s k m c a shared first second v kind fits below is r
     scalar_step v (Turn e body) kind fits refers below is r = turn_goes ctx s k m c a shared e body v kind fits below is r
     scalar_step v (Again body e) kind fits refers below is r = again_goes ctx s k m c a shared body e v kind fits below is r
@@ -95,6 +96,7 @@ module _ (ctx : Setting) where
     expression_step (Apply f e) r = apply_goes ctx s k m c a shared f e r
     expression_step (With e kind f) r = with_goes ctx s k m c a shared e kind f r
     expression_step (WithSpan e kind f g) r = with_span_goes ctx s k m c a shared e kind f g r
+    expression_step (Invoke x n kind given) r = invoke_goes ctx s k m c a shared x n kind given r
 
     task_step : (t : Task) → ItemWaits ctx (Perform t) k (RowsOf k) Quiet m.place m.stack c a → Goes ctx s (Perform t ∷ k) m (c + 32)
     task_step (Do (Assign d kind e)) r = assign_goes ctx s k m c a shared d kind e r
@@ -114,10 +116,11 @@ module _ (ctx : Setting) where
     task_step (Do Exit) r = exit_goes ctx s k m c a shared r
     task_step (Do Halt) r = halt_goes ctx s k m c a shared r
     task_step (Do Return) r = return_goes ctx s k m c a shared r
+    task_step (Do (Answer kind e)) r = answer_goes ctx s k m c a shared kind e r
     task_step (Do (Call x n given)) r = call_goes ctx s k m c a shared x n given r
     task_step (Do (For x kind e f step body)) r = for_goes ctx s k m c a shared x kind e f step body r
-    task_step (Passing (Requested q) done []) r = serve_goes ctx s k m c a shared q done r
-    task_step (Passing (Requested q) done (x ∷ left)) r = passing_goes ctx s k m c a shared q done x left r
+    task_step (Passing (Requested q) done NoMore) r = serve_goes ctx s k m c a shared q done r
+    task_step (Passing (Requested q) done (Also x left)) r = passing_goes ctx s k m c a shared q done x left r
     task_step (Passing (Called x n) done left) r = absurd r.part
     task_step (Until body e) r = until_goes ctx s k m c a shared body e r
     task_step (Looping body) r = looping_goes ctx s k m c a shared body r
@@ -179,10 +182,10 @@ module _ (ctx : Setting) where
   item_step s m c a shared _ _ r = absurd r.then
 
   -- a call whose next argument is at hand, or which has them all
-  pending_step : (s : Source) (m : State) (c : ℕ) (a : Around) → Shared ctx s m → (x n : ℕ) (done : List Datum) (left : List Argument) (k : List Item)
+  pending_step : (s : Source) (m : State) (c : ℕ) (a : Around) → Shared ctx s m → (x n : ℕ) (done : List Datum) (left : Arguments) (k : List Item)
       → PendingWaits ctx x n done left (RowsOf k) Quiet m.place m.stack c a → Goes ctx s (Perform (Passing (Called x n) done left) ∷ k) m (c + 32)
-  pending_step s m c a shared x n done [] k r = enter_goes ctx s k m c a shared x n done r
-  pending_step s m c a shared x n done (y ∷ left) k r = argument_goes ctx s k m c a shared x n done y left r
+  pending_step s m c a shared x n done NoMore k r = enter_goes ctx s k m c a shared x n done r
+  pending_step s m c a shared x n done (Also y left) k r = argument_goes ctx s k m c a shared x n done y left r
 
   -- THE STEP
   pub each_step : (s : Source) (m : State) (c : ℕ) (a : Around) → Shared ctx s m → (k : List Item)

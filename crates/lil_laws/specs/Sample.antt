@@ -1,8 +1,8 @@
 -- A module with a procedure in another one, its code, and what follows: the laws of calls speak of something.
-use Rattle.std.proofs.Common.{ℕ, zero, suc, ◌+◌, ◌<◌, ◌≤◌, List, [], ◌∷◌, refl, sym, ap, arith}
+use Rattle.std.proofs.Common.{ℕ, zero, suc, ◌+◌, ◌<◌, ◌≤◌, List, [], None, ◌∷◌, refl, sym, ap, arith}
 use Rattle.std.proofs.lemmas.Option.{none-some, same_Some}
 use Rattle.lil_base.specs.declared.request.Request.TheVariants.{WriteLn}
-use Rattle.lil_resolved.specs.Resolved.{Procedure, Resolved, Request, Call, Empty, Then}
+use Rattle.lil_resolved.specs.Resolved.{Procedure, Resolved, Request, NoMore, Call, Empty, Then}
 use Rattle.lil_meaning.specs.World.{World}
 use Rattle.lil_asm.specs.Bytes.{decoded, row_6, row_7}
 use Rattle.lil_table.specs.Rows.{Translates}
@@ -11,13 +11,13 @@ use Rattle.lil_laws.specs.Start as all
 
 -- PROCEDURE P; PROCEDURE Q; BEGIN WriteLn END Q; BEGIN Q END P; BEGIN P END
 abbrev inner : Procedure
-inner = record { name = 81 ∷ []; around = 1 ∷ []; locals = []; parameters = 0; body = Then (Request WriteLn []) Empty }
+inner = record { name = 81 ∷ []; around = 1 ∷ []; locals = []; parameters = 0; result = None; body = Then (Request WriteLn NoMore) Empty }
 
 abbrev outer : Procedure
-outer = record { name = 80 ∷ []; around = []; locals = []; parameters = 0; body = Then (Call 2 1 []) Empty }
+outer = record { name = 80 ∷ []; around = []; locals = []; parameters = 0; result = None; body = Then (Call 2 1 NoMore) Empty }
 
 abbrev text : Resolved
-text = record { name = 77 ∷ []; targets = []; names = []; variables = []; procedures = outer ∷ inner ∷ []; body = Then (Call 1 0 []) Empty }
+text = record { name = 77 ∷ []; targets = []; names = []; variables = []; procedures = outer ∷ inner ∷ []; body = Then (Call 1 0 NoMore) Empty }
 
 abbrev code : List ℕ
 code = 104 ∷ 0 ∷ 4 ∷ 97 ∷ 0 ∷ 101 ∷ 1 ∷ 0 ∷ 0 ∷ 106 ∷ 104 ∷ 0 ∷ 4 ∷ 97 ∷ 1 ∷ 101 ∷ 2 ∷ 0 ∷ 0 ∷ 106 ∷ 104 ∷ 0 ∷ 4 ∷ 125 ∷ 4 ∷ 106 ∷ []
@@ -32,7 +32,7 @@ translates = record {
     enter = refl;
     body = record {
       middle = 9;
-      here = record { may = record { its = record { around = []; locals = []; parameters = 0 }; known = refl; declared = refl }; takes = refl; start = 5; middle = 5; mark = refl; arguments = refl; call = refl };
+      here = record { may = record { its = record { around = []; locals = []; parameters = 0; result = None }; known = refl; declared = refl }; returns = refl; takes = refl; start = 5; middle = 5; mark = refl; arguments = refl; call = refl };
       then = refl;
     };
     leave = refl;
@@ -47,7 +47,7 @@ translates = record {
         enter = refl;
         body = record {
           middle = 19;
-          here = record { may = record { its = record { around = 1 ∷ []; locals = []; parameters = 0 }; known = refl; declared = (let less : 0 < 1 = omega arith in less, refl) }; takes = refl; start = 15; middle = 15; mark = refl; arguments = refl; call = refl };
+          here = record { may = record { its = record { around = 1 ∷ []; locals = []; parameters = 0; result = None }; known = refl; declared = (let less : 0 < 1 = omega arith in less, refl) }; returns = refl; takes = refl; start = 15; middle = 15; mark = refl; arguments = refl; call = refl };
           then = refl;
         };
         leave = refl;

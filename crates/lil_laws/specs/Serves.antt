@@ -3,9 +3,9 @@ use Rattle.std.proofs.Common.{◌≡◌, ◌⊎◌, inl, inr, ℕ, zero, suc, Bo
 use Rattle.std.specs.Prelude.{ℤ, map, slice_get}
 use Rattle.lil_base.specs.{Words.Cardinal, declared.fault.{TrapKind.TrapKind, TrapAt.TrapAt}}
 use Rattle.lil_base.specs.declared.request.Request as request
-use Rattle.lil_resolved.specs.{Kinds.{Kind, OfWhole, nat_of, Scalar, ToObject, within, value_with, ordinal_of}, Resolved.{Named, OfLevel, Designator, Variable, Handed, Held, Expression, Taken, Argument, ByValue, OfPlace, OfAll, OfArray, OfText, Statement, Exit, Statements, Procedure, procedure_by, Resolved, counted_as}}
-use Rattle.lil_meaning.specs.{Items.{Place, got, loaded_at, Receiver, Requested, Called, Datum, Scalars, Places, Hole, Get, StoreAt, ChangeAt, OneOf, RightOf, ApplyTo, Pass, Pick, Task, Do, Passing, Item, Value, Evaluate, PlaceOf, Fill, Perform, Activation, Level, Phase, Going, Closing, Source}, Need.HasCalls, World.{World, Given, serve, closing}}
-use Rattle.lil_meaning.specs.Steps.{next, by_phase, first, given, fill, filled, filled_place, pointed, performed, did, entered, owner_of, procedures_of, current, turned_at, turned_with, turned_on, variable_place, picked, allocated, found_at, placed, received, passed_on, evaluated, answered, applied, one_applied, function_value, chosen, stored_with, value_of, changed, whole_of, given_of, level_of, over, left_by, leave}
+use Rattle.lil_resolved.specs.{Kinds.{Kind, OfWhole, nat_of, Scalar, ToObject, within, value_with, ordinal_of}, Resolved.{Named, OfLevel, Designator, Variable, Handed, Held, Expression, Taken, Argument, Arguments, NoMore, Also, ByValue, OfPlace, OfAll, OfArray, OfText, Statement, Exit, Statements, Procedure, procedure_by, Resolved, counted_as}}
+use Rattle.lil_meaning.specs.{Items.{Place, got, loaded_at, Receiver, Requested, Called, Datum, Scalars, Places, Hole, Get, StoreAt, ChangeAt, OneOf, RightOf, ApplyTo, Pass, Returning, End, Pick, Task, Do, Passing, Item, Value, Evaluate, PlaceOf, Fill, Perform, Activation, Level, Phase, Going, Closing, Source}, Need.HasCalls, World.{World, Given, serve, closing}}
+use Rattle.lil_meaning.specs.Steps.{next, end_reached, activation_result, by_phase, first, given, fill, filled, filled_place, pointed, performed, did, entered, owner_of, procedures_of, current, turned_at, turned_with, turned_on, variable_place, picked, allocated, found_at, placed, received, passed_on, evaluated, answered, applied, one_applied, function_value, chosen, stored_with, value_of, changed, whole_of, given_of, level_of, over, left_by, leave}
 use Rattle.lil_meaning.specs.Runs.{after}
 use Rattle.lil_meaning.specs.Items as items
 
@@ -79,6 +79,7 @@ module _ (library : List Resolved) (s : Source) where
   filled_serves (items.MemberAt out p kind) v k = choice_serves s (within kind v) _ _ (still refl refl refl) (still refl refl refl)
   filled_serves (items.AllocateAt back p) v k = choice_serves s (within (OfWhole Cardinal) v) _ _ (allocated_serves back (nat_of (ordinal_of v)) p k) (still refl refl refl)
   filled_serves (Pass r kind done left) v k = choice_serves s (within kind v) _ _ (still refl refl refl) (still refl refl refl)
+  filled_serves (Returning kind) v k = choice_serves s (within kind v) _ _ (still refl refl refl) (still refl refl refl)
   filled_serves (Pick arms) v k = picked_serves (chosen arms (ordinal_of v)) k
   filled_serves _ v k = still refl refl refl
 
@@ -110,17 +111,22 @@ module _ (library : List Resolved) (s : Source) where
       let here : ℕ = owner_of (slice_get s.activations (current k)) in
       entered_serves (procedure_by (procedures_of (loaded_at library s.loaded here)) p) _ done k (λ bare. ap (λ (ps : List Procedure). procedure_by ps p) (bare s.loaded here) ∙ none_by p)
 
-  passed_serves : (r : Receiver) (done : List Datum) (left : List Argument) (k : List Item) → Serves library s (passed_on library r done left k s)
-  passed_serves r done [] k = received_serves r done k
-  passed_serves r done (ByValue kind e ∷ left) k = still refl refl refl
-  passed_serves r done (OfPlace d ∷ left) k = still refl refl refl
-  passed_serves r done (OfAll d ∷ left) k = still refl refl refl
-  passed_serves r done (OfArray d high ∷ left) k = still refl refl refl
-  passed_serves r done (OfText cs ∷ left) k = still refl refl refl
+  passed_serves : (r : Receiver) (done : List Datum) (left : Arguments) (k : List Item) → Serves library s (passed_on library r done left k s)
+  passed_serves r done NoMore k = received_serves r done k
+  passed_serves r done (Also (ByValue kind e) left) k = still refl refl refl
+  passed_serves r done (Also (OfPlace d) left) k = still refl refl refl
+  passed_serves r done (Also (OfAll d) left) k = still refl refl refl
+  passed_serves r done (Also (OfArray d high) left) k = still refl refl refl
+  passed_serves r done (Also (OfText cs) left) k = still refl refl refl
+
+  ended_serves : (o : Option Kind) (k : List Item) → Serves library s (end_reached library o k s)
+  ended_serves None k = still refl refl refl
+  ended_serves (Some kind) k = still refl refl refl
 
   performed_serves : (t : Task) (k : List Item) → Serves library s (performed library t k s)
   performed_serves (Do t) k = did_serves t k
   performed_serves (Passing r done left) k = passed_serves r done left k
+  performed_serves (End a) k = ended_serves (activation_result library s.loaded (slice_get s.activations a)) k
   performed_serves (items.Turns x kind z step left body) k = turned_serves x kind z step left body k
   performed_serves _ k = still refl refl refl
 

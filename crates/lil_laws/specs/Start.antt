@@ -4,7 +4,7 @@ use Rattle.std.specs.Prelude.{slice_get, option_map}
 use Rattle.std.specs.List.{list_any}
 use Rattle.std.proofs.lemmas.{Bool.{le-ltb, ne_eqb}, Option.none-some}
 use Rattle.lil_resolved.specs.{Kinds.{Shape, all_words, shape_by, shape_at}, Resolved.{Resolved, procedure_by, outline_of}, Sizes.frame_words}
-use Rattle.lil_meaning.specs.{Items.{loaded_at, variables_of, targets_of, Item, Perform, End, Activation, Source, doing}, World.World, Need.frame_of, Steps.{owner_of, procedure_of, procedures_of, name_of}, Runs.{begun, bodies, body_of, body_activations, src}}
+use Rattle.lil_meaning.specs.{Items.{loaded_at, variables_of, targets_of, Item, Perform, End, Activation, Source, doing}, World.World, Need.frame_of, Steps.{owner_of, procedure_of, result_by, procedures_of, name_of}, Runs.{begun, bodies, body_of, body_activations, src}}
 use Rattle.lil_asm.specs.{declared.instr.Instr.TheVariants.{Rtn}, Stretches.{stretch, decoded_inside}}
 use Rattle.lil_mcode.specs.{declared.machine.Event.TheVariants.Went, Table.{State, enter_row, fetched, performed}}
 use Rattle.lil_frames.specs.Words.{zeros, cleared}
@@ -79,7 +79,7 @@ module _ (os : List Compiled) where
         (record { quiet = refl; empty = refl; activation = refl; alone = refl; free = refl; idle = refl; end = b.its.translates.middle; leave = t.leave; behind = behind })))
 
     rows_of : (a : ℕ) (b : Body os) (bs : List (Body os)) → Rows (setting (frame_for a b) (frames (suc a) bs)) (bodies library loaded a (map number (b ∷ bs))) Quiet b.its.translates.body.start [] 0 (outside (frame_for a b))
-    rows_of a b [] = body_at a b [] refl
+    rows_of a b [] = body_at a b [] (refl, refl)
     rows_of a b (c ∷ bs) =
         body_at a b (c ∷ bs)
         (record {
@@ -112,6 +112,7 @@ module _ (os : List Compiled) where
       entered = record { there = refl; apart = body_apart b.its };
       piece = record { is = refl; within = body_within b.its };
       size = sym (ap (λ (m : Option Resolved). frame_of m 0) (text b));
+      returns = ap (λ (m : Option Resolved). result_by m 0) (sym (text b));
       procedures = ap (λ (m : Option Resolved). map outline_of (procedures_of m)) (sym (text b));
       codes = λ p q there.
           let e = entry_row b.its p q (ap (λ (m : Option Resolved). procedure_by (procedures_of m) p) (sym (text b)) ∙ there) in

@@ -4,12 +4,12 @@ use Rattle.std.specs.List.{list_any}
 use Rattle.std.proofs.lemmas.{Bool.{le-ltb, lt-ltb, cases_lt}, Option.slice_get_within}
 use Rattle.lil_base.specs.declared.fault.LimitKind.TheVariants as limit
 use Rattle.lil_resolved.specs.{Kinds.{Address}, Plain.parameter_variable}
-use Rattle.lil_meaning.specs.{Items.{End, Item, Perform, Activation, Going, Source}, Need.{HasCalls, chain}}
+use Rattle.lil_meaning.specs.{Items.{Item, Activation, Going, Source}, Need.{HasCalls, chain}, Steps.{next as turn}}
 use Rattle.lil_asm.specs.declared.instr.Instr.TheVariants.{Ent, Rtn}
 use Rattle.lil_mcode.specs.{declared.machine.Event.TheVariants.Went, Table.{Module, State, stack_of, module_at, mstep, end_row, body_row, begun_body, enter_row}}
 use Rattle.lil_frames.specs.Words.{zeros, cleared}
 use Rattle.lil_table.specs.Rows.{IsAt, framed}
-use Rattle.lil_match.specs.{Goes.{OwnWords, Linked, Comes, Shared, IsShort, Goes, number_of}, Running.{running, advanced}, Parts.{yes, no}, Homes.{Own, Fixed, Free, Home, extends_self, Mem, Ours, Stays, Turns, mem_turned, fixed_turned}, Splices.{spliced_length, spliced_before, spliced_after, zeros_length}, Costs.{known_costs, items_cost}}
+use Rattle.lil_match.specs.{Goes.{OwnWords, Linked, Comes, Shared, IsShort, Lands, Goes, number_of}, Running.{running, advanced}, Parts.{yes, no}, Homes.{Own, Fixed, Free, Home, extends_self, Mem, Ours, Stays, Turns, mem_turned, fixed_turned}, Splices.{spliced_length, spliced_before, spliced_after, zeros_length}, Costs.{known_costs, items_cost}}
 use Rattle.lil_match.specs.{Waits.{Quiet, own_words, locals_in, is_of, outside, Frame, Setting, at_home, with_frames, RowsOf, NextBody}, Known.{or_later, known_kept, each_comes, each_local}, Kept.{all_above, offset_low, rows_kept}, Steps.{advances, at_step, rows_ahead, goes_one_in, goes_full, goes_after}}
 use Rattle.lil_laws_stmt.specs.Painting.{own_free, painted, painted_there, painted_beside, Side, Before, Between, Behind', side}
 
@@ -20,7 +20,7 @@ module _ (ctx : Setting) (f b : Frame) (bs : List Frame) where
   abbrev beginning : Setting
   beginning = with_frames ctx b [] bs
 
-  module _ (s : Source) (m : State) (shared : Shared ending s m) (n : ℕ) (k : List Item) (c : ℕ) (end : ℕ) (leave : IsAt f.piece m.place Rtn end) (next : NextBody ending b (RowsOf k beginning) c) where
+  module _ (s : Source) (m : State) (shared : Shared ending s m) (first : List Item) (k : List Item) (becomes : turn ctx.library (record s { items = first; phase = Going }) ≡ record s { items = k; phase = Going }) (c : ℕ) (end : ℕ) (leave : IsAt f.piece m.place Rtn end) (next : NextBody ending b (RowsOf k beginning) c) where
     abbrev h : Home
     h = ctx.home
 
@@ -63,20 +63,20 @@ module _ (ctx : Setting) (f b : Frame) (bs : List Frame) where
         at_step beginning begun (record { table_is = shared.program.table_is; known = comes.known.known; piece = comes.known.piece; running_is = refl; marked_is = shared.program.marked_is }) (Ent (framed b.layout.frame)) next.start next.enter
 
     -- ---- without room
-    pub goes_short : ctx.stack.limit < b.at + b.layout.frame → Goes ending s (Perform (End n) ∷ k) m (c + 32)
+    pub goes_short : ctx.stack.limit < b.at + b.layout.frame → Goes ending s first m (c + 32)
     goes_short less =
         ⊎_elim (λ (none : m.limit < m.base + 4).
-        goes_full ending s (Perform (End n) ∷ k) m (c + 32) limit.Stack (leaving ∙ yes _ _ _ (lt-ltb m.limit (m.base + 4) none)) (short, more) (omega arith))
+        goes_full ending s first m (c + 32) limit.Stack (leaving ∙ yes _ _ _ (lt-ltb m.limit (m.base + 4) none)) shorter (omega arith))
         (λ (some : m.base + 4 ≤ m.limit).
-        goes_after ending s (Perform (End n) ∷ k) m begun (c + 32) (c + 1) (leaves (omega (arith, shared.standing.limit_is, shared.standing.base_is, some)))
-        (goes_full ending s (Perform (End n) ∷ k) begun (c + 1) limit.Stack
+        goes_after ending s first m begun (c + 32) (c + 1) (leaves (omega (arith, shared.standing.limit_is, shared.standing.base_is, some)))
+        (goes_full ending s first begun (c + 1) limit.Stack
         (entering
         ∙ no _ _ _ (le-ltb (m.base + framed b.layout.frame) (m.base + 4) (omega (arith, comes.mark)))
         ∙ yes _ _ _ (lt-ltb m.limit (m.base + framed b.layout.frame) (omega (arith, shared.standing.limit_is, shared.standing.base_is, comes.at, less, shared.standing.high, shared.standing.based))))
-        (short, more) (omega arith))
+        shorter (omega arith))
         (omega arith)) (cases_lt m.limit (m.base + 4))
       where
-        calls : b.layout.frame + 17 ≤ chain ctx.library s.loaded s.activations k
+        calls : b.layout.frame ≤ chain ctx.library s.loaded s.activations k
         calls =
             let same : chain ctx.library s.loaded s.activations k ≡ chain ctx.library ctx.loaded ctx.activations k =
             ap (λ (l : List ℕ). chain ctx.library l s.activations k) shared.loaded_are ∙ ap (λ (acts : List Activation). chain ctx.library ctx.loaded acts k) shared.activations_are in
@@ -87,6 +87,9 @@ module _ (ctx : Setting) (f b : Frame) (bs : List Frame) where
 
         more : HasCalls ctx.library (record s { items = k; phase = Going })
         more = inl (omega (arith, comes.later, slice_get_within ctx.activations b.activation comes.known.its comes.known.runs, ap length shared.activations_are))
+
+        shorter : IsShort ctx.library ctx.stack.base (turn ctx.library (record s { items = first; phase = Going })) × HasCalls ctx.library (turn ctx.library (record s { items = first; phase = Going }))
+        shorter = subst (λ (y : Source). IsShort ctx.library ctx.stack.base y × HasCalls ctx.library y) (sym becomes) (short, more)
 
     -- ---- with room
     module _ (room : b.at + b.layout.frame ≤ ctx.stack.limit) where
@@ -180,11 +183,12 @@ module _ (ctx : Setting) (f b : Frame) (bs : List Frame) where
           ∙ no _ _ _ (le-ltb m.limit (m.base + b.layout.frame) (omega (arith, shared.standing.limit_is, shared.standing.base_is, comes.at, room)))
           )
 
-      pub goes_next : Goes ending s (Perform (End n) ∷ k) m (c + 32)
+      pub goes_next : Goes ending s first m (c + 32)
       goes_next =
           let g = shared.standing in
-          goes_after ending s (Perform (End n) ∷ k) m begun (c + 32) (c + 1) (leaves (omega (arith, comes.at, comes.mark, room)))
-          (goes_one_in ending s (Perform (End n) ∷ k) begun x (record (ctx.stack) { frame = b; callers = []; bodies = bs }) (c + 1) c (running entered s.world) enters
+          goes_after ending s first m begun (c + 32) (c + 1) (leaves (omega (arith, comes.at, comes.mark, room)))
+          (goes_one_in ending s first begun x (record (ctx.stack) { frame = b; callers = []; bodies = bs }) (c + 1) c (running entered s.world) enters
+          (subst (λ (y : Source). Lands (record ending { home = x; stack = record (ctx.stack) { frame = b; callers = []; bodies = bs } }) y.phase y (running entered s.world) c) (sym becomes)
           (record {
             machine = entered;
             is = refl;
@@ -223,7 +227,7 @@ module _ (ctx : Setting) (f b : Frame) (bs : List Frame) where
                   (record { pushed = λ i less. absurd (omega (arith, less, next.idle)); shadow = λ a from below. absurd (omega (arith, from, below, comes.at, next.bare)); base = λ r e l. refl; shape = λ r e l. refl; targets = refl; workspaces = extends_self h.workspaces })
                   next.then);
             };
-          })
+          }))
           (record {
             owner = λ a o. owner_beside a o;
             shadow = λ a o. shadow_beside a (⊎_elim (λ (l : a < ctx.stack.base). inl l) (λ (g : ctx.stack.limit ≤ a). inr (omega (arith, g, comes.at, room), omega (arith, g, comes.at, room))) o);

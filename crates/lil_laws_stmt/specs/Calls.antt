@@ -12,22 +12,23 @@ use Rattle.lil_match.specs.Homes.{place_inside}
 use Rattle.lil_laws_stmt.specs.Pushes.{alone_given, block_given}
 use Rattle.lil_meaning.specs.Need.{IsCalling, next_called}
 use Rattle.lil_resolved.specs.Kinds.{MayCall}
-use Rattle.std.proofs.Common.{◌≡◌, ℕ, zero, suc, ◌+◌, ◌<◌, ◌≤◌, inl, inr, Bool, true, cond, Option, None, Some, List, [], ◌∷◌, ◌++◌, length, map, take, refl, sym, ap, ◌∙◌, subst, ⊎_elim, arith}
+use Rattle.std.proofs.Common.{◌≡◌, ℕ, zero, suc, ◌+◌, ◌<◌, ◌≤◌, inl, inr, Bool, true, cond, Option, None, Some, List, [], ◌∷◌, ◌++◌, length, map, take, reverse, refl, sym, ap, ◌∙◌, subst, ⊎_elim, arith}
 use Rattle.std.specs.Prelude.{slice_get}
+use Rattle.std.proofs.lemmas.List.{length-append, length-reverse}
 use Rattle.std.proofs.lemmas.{Bool.{lt-ltb, le-ltb, cases_lt}, Option.{none-some, same_Some}}
 use Rattle.lil_base.specs.declared.fault.LimitKind.TheVariants as limit
 use Rattle.lil_base.specs.declared.fault.TrapKind.TheVariants as trap
-use Rattle.lil_resolved.specs.{Kinds.{Declared, Outline, Kind, Scalar, within, stores_value, Shape, Word, Address, all_words, parameters_of, procedure_by}, Resolved.{Procedure, Designator, Argument, ByValue, OfPlace, OfAll, OfArray, OfText, Call, Resolved, kind_of, outline_of, shape_of}, Sizes.{frame_words}, Sound.{parameter_of}}
-use Rattle.lil_meaning.specs.{Items.{loaded_at, Place, Datum, Scalars, Places, Called, Pass, PassPlace, PassAll, Do, Passing, Item, Value, Fill, Perform, Activation, Going, Source, heap_words}, Need.{HasCalls, chain, chain_of, frame_by, frame_of}, Steps.{next, trapped, with_items, current, owner_of, procedures_of}}
-use Rattle.lil_asm.specs.declared.instr.Instr.TheVariants.{Mrk, Psh, Cll}
-use Rattle.lil_mcode.specs.Table.{State, going, mstep, on_one, frame_out, link_word, mark_row, word_row}
+use Rattle.lil_resolved.specs.{Kinds.{Declared, Outline, Kind, Scalar, within, stores_value, Shape, Word, Address, all_words, parameters_of, procedure_by}, Resolved.{Procedure, Designator, Argument, Arguments, NoMore, Also, ByValue, OfPlace, OfAll, OfArray, OfText, Invoke, Call, Resolved, kind_of, outline_of, shape_of}, Sizes.{frame_words}, Sound.{parameter_of, parameters_given}}
+use Rattle.lil_meaning.specs.{Items.{Evaluate, loaded_at, Place, Datum, Scalars, Places, Called, Pass, PassPlace, PassAll, Do, Passing, Item, Value, Fill, Perform, Activation, Going, Source, heap_words}, Need.{HasCalls, chain, chain_of, frame_by, frame_of}, Steps.{next, trapped, with_items, current, owner_of, procedures_of}}
+use Rattle.lil_asm.specs.declared.instr.Instr.TheVariants.{Sav, Mrk, Psh, Cll}
+use Rattle.lil_mcode.specs.Table.{State, going, mstep, on_one, frame_out, link_word, mark_row, word_row, save_row}
 use Rattle.lil_frames.specs.Words.{spliced}
-use Rattle.lil_table.specs.Rows.{Layout, IsAt, InstrsAt, test_code, address_code, framed, GivenAt, arguments_words, access_of, loop_place}
-use Rattle.lil_match.specs.{Goes.{OwnWords, Shared, IsShort, Lands, Goes}, Running.{running}, Parts.{yes, no}, Homes.{Home, word_for, Refers, within_base, address}, Costs.{cost_of, pending_cost, items_cost, shared_costs, shared_cost, top_low}, Climbs.{Climbs, climbs, first_own}}
-use Rattle.lil_match.specs.{Waits.{own_words, Quiet, ValueOf, AtPlace, Around, top_of, IsLink, frames_of, Setting, at_home, pushing, Designates, GivenWords, Pending, PendingWaits, ValueWaits, PlaceWaits, AllWaits, RowsOf, Rows, Waiting, frame_of as frame_at, laid_out}, Kept.{Keeps, pending_fits, rows_renewed, first_words, stack_above, loops_fit, pending_kept, rows_kept}}
-use Rattle.lil_match.specs.{Steps.{closed, pending_closed, advances, at_step, at_once, goes_full, goes_one_in, operand_goes, located_goes}, Orders.instr_within}
+use Rattle.lil_table.specs.Rows.{Layout, InvokeRow, CallRow, given_words, IsAt, InstrsAt, test_code, address_code, framed, GivenAt, arguments_words, access_of, loop_place}
+use Rattle.lil_match.specs.{Goes.{OwnWords, Shared, IsShort, Lands, Goes}, Running.{running}, Parts.{yes, no}, Homes.{Home, word_for, Refers, within_base, address}, Costs.{cost_of, saved_low, pending_cost, items_cost, shared_costs, shared_cost, top_low}, Climbs.{Climbs, climbs, first_own}}
+use Rattle.lil_match.specs.{Waits.{Resumed, AStatement, AValue, result_in, resumed_mode, resumed_stack, saved_words, AreSaved, RestoresAt, own_words, Quiet, ValueOf, AtPlace, Around, top_of, IsLink, frames_of, Setting, at_home, pushing, Designates, GivenWords, Pending, PendingWaits, ValueWaits, PlaceWaits, AllWaits, RowsOf, Rows, Waiting, frame_of as frame_at, laid_out}, Kept.{saved_kept, keeps_fewer, Keeps, pending_fits, rows_renewed, first_words, stack_above, loops_fit, pending_kept, rows_kept}}
+use Rattle.lil_match.specs.{Steps.{closed, goes_after_pushed, goes_more, pending_closed, advances, at_step, at_once, goes_full, goes_one_in, operand_goes, located_goes}, Orders.instr_within}
 use Rattle.lil_laws_place.specs.Codes.{addressed, stored_tested}
-use Rattle.lil_laws_stmt.specs.{Tasks.value_within, Pushes.{pending_more, taking, shared_pushed, touches_pushed, keeps_pushed, shadow_pushed}}
+use Rattle.lil_laws_stmt.specs.{Tasks.value_within, Pushes.{with_pushed, shadow_beside, pending_more, taking, shared_pushed, touches_pushed, keeps_pushed, shadow_pushed}}
 
 -- ---- procedures
 none_procedure : (q : Procedure) → None ≡ Some q → ⊥
@@ -63,9 +64,9 @@ same_place : (d e : Designator) → AtPlace d ≡ AtPlace e → d ≡ e
 same_place d e f = cc
 
 -- the words of the FORs and WITHs around a call lie in the frame
-pending_loops : (ctx : Setting) (k : List Item) (q levels : ℕ) (done : List Datum) (next : List Shape) (left : List Argument) (p c : ℕ) (a : Around) → 4 + own_words ctx.stack.frame ≤ ctx.stack.frame.layout.frame → Pending ctx q levels done next left (RowsOf k) p c a
+pending_loops : (ctx : Setting) (k : List Item) (q levels : ℕ) (done : List Datum) (next : List Shape) (left : Arguments) (p c : ℕ) (a : Around) → 4 + own_words ctx.stack.frame ≤ ctx.stack.frame.layout.frame → Pending ctx q levels done next left (RowsOf k) p c a
     → loop_place a.taken ≤ ctx.stack.frame.layout.frame
-pending_loops ctx k q levels done next left p c a mark w = pending_fits ctx q levels done next left k p c a mark w (λ y p c a. loops_fit k y Quiet p [] c a)
+pending_loops ctx k q levels done next left p c a mark w = pending_fits ctx q levels done next left k p c a mark w (λ y t p stack c a. loops_fit k y t p stack c a)
 
 module _ (ctx : Setting) where
   open ctx use {library, loaded, table, home as h, stack as st}
@@ -114,48 +115,78 @@ module _ (ctx : Setting) where
         }
 
     -- ---- the mark
-    module _ (given : List Argument) (row : Waiting ctx (Perform (Do (Call proc levels given))) (Rows ctx k) Quiet m.place m.stack c a) where
-      abbrev items : List Item
-      items = Perform (Do (Call proc levels given)) ∷ k
+    -- a call whose mark is to come, behind the words that were saved for it
+    pub record MarkWaits (given : Arguments) : Type 0 where
+      pub resumed : Resumed
+      pub end : ℕ
+      pub here : CallRow l piece proc levels (result_in resumed) given (GivenAt l piece given) m.place end
+      pub under : ℕ
+      pub pushed : ctx.stack.frame.pushed ≡ saved_words resumed + under
+      pub saved : AreSaved h.shadow resumed (ctx.stack.frame.at + (ctx.stack.frame.layout.frame + under))
+      pub after : ℕ
+      pub restore : RestoresAt piece resumed end after
+      pub within : after < length piece
+      pub then : Rows (with_pushed ctx under) k (resumed_mode resumed) after (resumed_stack resumed) c a
 
+    module _ (given : Arguments) (row : MarkWaits given) (empty : m.stack ≡ []) (items : List Item) (begins_so : next ctx.library (record s { items = items; phase = Going }) ≡ record s { items = Perform (Passing (Called proc levels) [] given) ∷ k; phase = Going }) where
       abbrev passing : Source
       passing = record s { items = Perform (Passing (Called proc levels) [] given) ∷ k; phase = Going }
 
       abbrev mark : List ℕ
       mark = link_word levels m ∷ 0 ∷ 0 ∷ 0 ∷ []
 
-      marking : mstep m ≡ mark_row levels row.part.here.start m
-      marking = at_step ctx m shared.program (Mrk levels) row.part.here.start row.part.here.mark
+      marking : mstep m ≡ mark_row levels row.here.start m
+      marking = at_step ctx m shared.program (Mrk levels) row.here.start row.here.mark
 
       close : current k ≡ ctx.stack.frame.activation
-      close = closed ctx k _ _ _ _ _ row.then
+      close = closed (with_pushed ctx row.under) k _ _ _ _ _ row.then
 
-      full : m.limit < m.top + 4 → Goes ctx s items m (c + 32)
-      full less =
-          goes_full ctx s items m (c + 32) limit.Stack (marking ∙ yes _ _ _ (lt-ltb m.limit (m.top + 4) less))
-          (short passing 4 _ less (let low = shared_cost ctx s m shared k _ _ _ _ _ row.then in omega (arith, low)) refl refl refl, inr (calling (current k) close row.part.here.may passing (refl, refl, refl, refl))) (omega arith)
+      saved_few : saved_words row.resumed ≤ 17
+      saved_few = saved_low h.shadow row.resumed _ row.saved
+
+      cost_here : cost_of (ctx.stack.frame ∷ ctx.stack.callers) ≤ saved_words row.resumed + chain ctx.library s.loaded s.activations k
+      cost_here =
+          let costs = shared_costs ctx s m shared in
+          let low = items_cost (with_pushed ctx row.under) k _ row.after _ c a row.then (record { takes = costs.0.takes; rest = costs.0.rest; owner = costs.0.owner }, costs.1) in
+          let same : chain ctx.library s.loaded s.activations k ≡ chain ctx.library ctx.loaded ctx.activations k =
+          ap (λ (ns : List ℕ). chain ctx.library ns s.activations k) shared.loaded_are ∙ ap (λ (acts : List Activation). chain ctx.library ctx.loaded acts k) shared.activations_are in
+          omega (arith, low, same, row.pushed)
 
       -- what is called has a frame for its arguments
-      room_is : 4 + (0 + (0 + given_words l.scope given)) ≤ frame_of (loaded_at ctx.library ctx.loaded ctx.stack.frame.number) proc + 17
+      room_is : 4 + (0 + (0 + given_words l.scope given)) ≤ frame_of (loaded_at ctx.library ctx.loaded ctx.stack.frame.number) proc
       room_is =
-          let one = what row.part.here.may in
+          let one = what row.here.may in
           let frame = frame_known (loaded_at ctx.library ctx.loaded ctx.stack.frame.number) proc one.its one.there in
-          let parameters : take one.its.parameters one.its.locals ≡ map (parameter_of l.scope) given =
-          ap (λ (o : Outline). take o.parameters o.locals) one.same ∙ sym (ap parameters_of row.part.here.may.known) ∙ row.part.here.takes in
+          let parameters : take one.its.parameters one.its.locals ≡ parameters_given l.scope given =
+          ap (λ (o : Outline). take o.parameters o.locals) one.same ∙ sym (ap parameters_of row.here.may.known) ∙ row.here.takes in
           omega (arith, frame, ap all_words parameters, taken_words one.its.parameters one.its.locals)
+
+      four : 4 ≤ frame_of (loaded_at ctx.library s.loaded (owner_of (slice_get s.activations (current k)))) proc
+      four =
+          let owner : owner_of (slice_get s.activations (current k)) ≡ ctx.stack.frame.number =
+          ap (λ (i : ℕ). owner_of (slice_get s.activations i)) close ∙ ap (λ (acts : List Activation). owner_of (slice_get acts ctx.stack.frame.activation)) shared.activations_are ∙ shared.standing.known.owner in
+          let same : frame_of (loaded_at ctx.library s.loaded (owner_of (slice_get s.activations (current k)))) proc ≡ frame_of (loaded_at ctx.library ctx.loaded ctx.stack.frame.number) proc =
+          ap (λ (i : ℕ). frame_of (loaded_at ctx.library s.loaded i) proc) owner ∙ ap (λ (ns : List ℕ). frame_of (loaded_at ctx.library ns ctx.stack.frame.number) proc) shared.loaded_are in
+          omega (arith, room_is, same)
+
+      full : m.limit < m.top + 4 → Goes ctx s items m (c + 31)
+      full less =
+          goes_full ctx s items m (c + 31) limit.Stack (marking ∙ yes _ _ _ (lt-ltb m.limit (m.top + 4) less))
+          (subst (λ (y : Source). IsShort ctx.library ctx.stack.base y × HasCalls ctx.library y) (sym begins_so)
+          (short passing 4 _ less (omega (arith, cost_here, saved_few, four)) refl refl refl, inr (calling (current k) close row.here.may passing (refl, refl, refl, refl)))) (omega arith)
 
       module _ (room : m.top + length mark ≤ ctx.stack.limit) where
         abbrev x : Home
         x = taking ctx s m shared mark room
 
         abbrev marked : State
-        marked = record m { place = row.part.here.start; top = m.top + length mark; store = spliced m.store m.top mark }
+        marked = record m { place = row.here.start; top = m.top + length mark; store = spliced m.store m.top mark }
 
         abbrev around : Around
         around = record { exit = None; taken = a.taken }
 
         -- the link
-        linked : (n : ℕ) → levels ≡ n → Declared ctx.stack.frame.layout.scope.chain n row.part.here.may.its.around → IsLink ctx.stack.frame.display n (x.shadow (top_of ctx.stack.frame))
+        linked : (n : ℕ) → levels ≡ n → Declared ctx.stack.frame.layout.scope.chain n row.here.may.its.around → IsLink ctx.stack.frame.display n (x.shadow (top_of ctx.stack.frame))
         linked zero e d = tt
         linked (suc i) e d =
             let up : Climbs ctx.activations m.store ctx.stack.frame ctx.stack.callers i =
@@ -170,58 +201,84 @@ module _ (ctx : Setting) where
             ∙ up.reached
             ))
 
-        begins : Goes ctx s items m (c + 32)
+        -- the saved words stay
+        saved_now : AreSaved x.shadow row.resumed (ctx.stack.frame.at + (ctx.stack.frame.layout.frame + row.under))
+        saved_now = saved_kept h.shadow x.shadow row.resumed _ (λ i less. shadow_beside ctx s m shared mark room _ (inl (omega (arith, less, row.pushed, words_here.top_is)))) row.saved
+
+        begins : Goes ctx s items m (c + 31)
         begins =
-            let loops = loops_fit k ctx Quiet row.part.end [] c a words_here.mark row.then in
-            goes_one_in ctx s items m x (pushing ctx 4).stack (c + 32) c (running marked s.world)
+            let loops : loop_place a.taken ≤ ctx.stack.frame.layout.frame = loops_fit k (with_pushed ctx row.under) _ row.after _ c a words_here.mark row.then in
+            let keeps = keeps_pushed ctx s m shared mark room (loop_place a.taken) loops in
+            let above = (stack_above ctx _ shared.standing).1 in
+            let pushes : 4 + ctx.stack.frame.pushed ≡ (saved_words row.resumed + (4 + 0)) + row.under = omega (arith, row.pushed) in
+            let first : top_of ctx.stack.frame ≡ (ctx.stack.frame.at + (ctx.stack.frame.layout.frame + row.under)) + saved_words row.resumed = omega (arith, row.pushed) in
+            goes_one_in ctx s items m x (pushing ctx 4).stack (c + 31) c (running marked s.world)
             (advances m s.world _ (marking ∙ no _ _ _ (le-ltb m.limit (m.top + 4) (omega (arith, room, shared.standing.limit_is)))))
+            (subst (λ (y : Source). Lands (pushing (at_home ctx x) 4) y.phase y (running marked s.world) c) (sym begins_so)
             (record {
               machine = marked;
               is = refl;
               met = record {
                 shared = shared_pushed ctx s m shared mark room;
                 around = around;
-                ahead = at_once (pushing (at_home ctx x) 4) _ Quiet row.part.here.start m.stack c around
+                ahead = at_once (pushing (at_home ctx x) 4) _ Quiet row.here.start m.stack c around
                     (record {
                       quiet = refl;
-                      empty = row.part.empty;
+                      empty = empty;
                       pending = record {
-                        before = at_home ctx x;
+                        before = with_pushed (at_home ctx x) row.under;
                         shapes = [];
-                        is = refl;
+                        resumed = row.resumed;
+                        is = ap (with_pushed (at_home ctx x)) pushes;
+                        saved = saved_now;
                         outer = a;
                         around = refl;
-                        may = row.part.here.may;
-                        takes = row.part.here.takes;
-                        room = room_is;
-                        link = linked levels refl row.part.here.may.declared;
+                        may = row.here.may;
+                        returns = row.here.returns;
+                        takes = row.here.takes;
+                        room = omega (arith, room_is, saved_few);
+                        link = subst (IsLink ctx.stack.frame.display levels) (ap x.shadow first) (linked levels refl row.here.may.declared);
                         given = tt;
-                        middle = row.part.here.middle;
-                        arguments = row.part.here.arguments;
-                        end = row.part.end;
-                        call = subst (λ (n : ℕ). IsAt piece row.part.here.middle (Cll proc (framed n)) row.part.end) (let e : given_words l.scope given ≡ 0 + (0 + given_words l.scope given) = omega arith in e) row.part.here.call;
-                        within = row.part.within;
-                        then = rows_kept k ctx x ctx.stack.limit (ctx.stack.base + 4) (stack_above ctx _ shared.standing).1 Quiet row.part.end [] c a (keeps_pushed ctx s m shared mark room (loop_place a.taken) loops) row.then;
+                        middle = row.here.middle;
+                        arguments = row.here.arguments;
+                        end = row.end;
+                        call = subst (λ (n : ℕ). IsAt piece row.here.middle (Cll proc (framed n)) row.end) (let e : given_words l.scope given ≡ 0 + (0 + given_words l.scope given) = omega arith in e) row.here.call;
+                        after = row.after;
+                        restore = row.restore;
+                        within = row.within;
+                        then = rows_kept k (with_pushed ctx row.under) x ctx.stack.limit (ctx.stack.base + 4) (above.0, above.1) _ row.after _ c a
+                            (keeps_fewer ctx.home x ctx.stack.frame row.under (ctx.stack.callers ++ ctx.stack.bodies) (ctx.stack.base + 4) (ctx.stack.frame.at + loop_place a.taken) (omega (arith, row.pushed)) keeps) row.then;
                       };
                     });
               };
-            })
+            }))
             (touches_pushed ctx s m shared mark room)
             (record { base = refl; limit = omega arith; frames = λ i seen. inl seen })
             (omega arith)
 
-      pub call_goes : Goes ctx s (Perform (Do (Call proc levels given)) ∷ k) m (c + 32)
-      call_goes = ⊎_elim (λ less. full less) (λ (some : m.top + 4 ≤ m.limit). begins (omega (arith, some, shared.standing.limit_is))) (cases_lt m.limit (m.top + 4))
+      pub mark_goes : Goes ctx s items m (c + 31)
+      mark_goes = ⊎_elim (λ less. full less) (λ (some : m.top + 4 ≤ m.limit). begins (omega (arith, some, shared.standing.limit_is))) (cases_lt m.limit (m.top + 4))
+
+    pub call_goes : (given : Arguments) → Waiting ctx (Perform (Do (Call proc levels given))) (Rows ctx k) Quiet m.place m.stack c a → Goes ctx s (Perform (Do (Call proc levels given)) ∷ k) m (c + 32)
+    call_goes given row =
+        goes_more ctx s (Perform (Do (Call proc levels given)) ∷ k) m (c + 31) (c + 32)
+        (mark_goes given
+        (record { resumed = AStatement; end = row.part.end; here = row.part.here; under = ctx.stack.frame.pushed; pushed = omega arith; saved = tt; after = row.part.end; restore = refl; within = row.part.within; then = row.then })
+        row.part.empty (Perform (Do (Call proc levels given)) ∷ k) refl)
+        (omega arith)
 
     -- ---- the next argument
-    next_argument : (done : List Datum) (y : Argument) (left : List Argument) (w : Pending ctx proc levels done [] (y ∷ left) (RowsOf k) m.place c a) → Pending ctx proc levels done (parameter_of l.scope y ∷ []) left (RowsOf k) w.arguments.1.middle c a
+    next_argument : (done : List Datum) (y : Argument) (left : Arguments) (w : Pending ctx proc levels done [] (Also y left) (RowsOf k) m.place c a) → Pending ctx proc levels done (parameter_of l.scope y ∷ []) left (RowsOf k) w.arguments.1.middle c a
     next_argument done y left w = record {
       before = w.before;
       shapes = w.shapes;
+      resumed = w.resumed;
       is = w.is;
+      saved = w.saved;
       outer = w.outer;
       around = w.around;
       may = w.may;
+      returns = w.returns;
       takes = w.takes;
       room = omega (arith, w.room);
       link = w.link;
@@ -229,37 +286,39 @@ module _ (ctx : Setting) where
       middle = w.middle;
       arguments = w.arguments.1.then;
       end = w.end;
-      call = subst (λ (n : ℕ). IsAt piece w.middle (Cll proc (framed n)) w.end) (let e : all_words w.shapes + (0 + given_words l.scope (y ∷ left)) ≡ all_words w.shapes + ((words (parameter_of l.scope y) + 0) + given_words l.scope left) = omega arith in e) w.call;
+      call = subst (λ (n : ℕ). IsAt piece w.middle (Cll proc (framed n)) w.end) (let e : all_words w.shapes + (0 + given_words l.scope (Also y left)) ≡ all_words w.shapes + ((words (parameter_of l.scope y) + 0) + given_words l.scope left) = omega arith in e) w.call;
+      after = w.after;
+      restore = w.restore;
       within = w.within;
       then = w.then;
     }
 
-    pub argument_goes : (done : List Datum) (y : Argument) (left : List Argument) → PendingWaits ctx proc levels done (y ∷ left) (RowsOf k) Quiet m.place m.stack c a
-        → Goes ctx s (Perform (Passing (Called proc levels) done (y ∷ left)) ∷ k) m (c + 32)
+    pub argument_goes : (done : List Datum) (y : Argument) (left : Arguments) → PendingWaits ctx proc levels done (Also y left) (RowsOf k) Quiet m.place m.stack c a
+        → Goes ctx s (Perform (Passing (Called proc levels) done (Also y left)) ∷ k) m (c + 32)
     argument_goes done (ByValue kind e) left row =
         let r = row.pending.arguments.1 in
         let value = r.here.here in
-        operand_goes ctx s k m c a shared (Perform (Passing (Called proc levels) done (ByValue kind e ∷ left)) ∷ k) e (Pass (Called proc levels) kind done left) refl (omega arith) value.middle value.value.value
+        operand_goes ctx s k m c a shared (Perform (Passing (Called proc levels) done (Also (ByValue kind e) left)) ∷ k) e (Pass (Called proc levels) kind done left) refl (omega arith) value.middle value.value.value
         (omega (arith, ap length row.empty, value.value.shallow))
         (value_within ctx 0 e kind m.place r.here.middle value (instr_within piece r.here.middle Psh r.middle r.here.push))
         (record { from = kind_of e; mode = refl; empty = row.empty; stores = value.stores; tested = r.here.middle; test = value.test; start = r.middle; push = r.here.push; pending = next_argument done (ByValue kind e) left row.pending })
     argument_goes done (OfPlace d) left row =
         let r = row.pending.arguments.1 in
         let y = r.here.here in
-        located_goes ctx s k m c a shared (Perform (Passing (Called proc levels) done (OfPlace d ∷ left)) ∷ k) d (PassPlace (Called proc levels) done left) refl (omega arith) y.found y.here
+        located_goes ctx s k m c a shared (Perform (Passing (Called proc levels) done (Also (OfPlace d) left)) ∷ k) d (PassPlace (Called proc levels) done left) refl (omega arith) y.found y.here
         (omega (arith, ap length row.empty, y.shallow))
         (record { of = d; mode = refl; empty = row.empty; tested = r.here.middle; address = y.address; start = r.middle; push = r.here.push; pending = next_argument done (OfPlace d) left row.pending })
     argument_goes done (OfAll d) left row =
         let r = row.pending.arguments.1 in
         let y = r.here.here in
-        located_goes ctx s k m c a shared (Perform (Passing (Called proc levels) done (OfAll d ∷ left)) ∷ k) d (PassAll (Called proc levels) done left) refl (omega arith) y.found y.here
+        located_goes ctx s k m c a shared (Perform (Passing (Called proc levels) done (Also (OfAll d) left)) ∷ k) d (PassAll (Called proc levels) done left) refl (omega arith) y.found y.here
         (omega (arith, ap length row.empty, y.shallow))
         (record { of = d; mode = refl; empty = row.empty; tested = r.here.middle; address = y.address; start = r.middle; push = r.here.push; pending = next_argument done (OfAll d) left row.pending })
     argument_goes done (OfArray d high) left row = absurd row.pending.arguments.0
     argument_goes done (OfText cs) left row = absurd row.pending.arguments.0
 
     -- its words go to the frame to come
-    push_goes : (first : List Item) (done : List Datum) (t : Shape) (d : Datum) (left : List Argument) (ws : List ℕ) (p start : ℕ) (stack : List ℕ) → mstep (going m p stack) ≡ longer_row (length ws) (spliced m.store m.top ws) start [] (going m p stack) → length ws ≡ words t
+    push_goes : (first : List Item) (done : List Datum) (t : Shape) (d : Datum) (left : Arguments) (ws : List ℕ) (p start : ℕ) (stack : List ℕ) → mstep (going m p stack) ≡ longer_row (length ws) (spliced m.store m.top ws) start [] (going m p stack) → length ws ≡ words t
         → Pending ctx proc levels done (t ∷ []) left (RowsOf k) start c a → ((room : m.top + length ws ≤ ctx.stack.limit) → GivenWords (at_home ctx (taking ctx s m shared ws room)) t d (top_of ctx.stack.frame))
         → next ctx.library (record s { items = first; phase = Going }) ≡ record s { items = Perform (Passing (Called proc levels) (done ++ d ∷ []) left) ∷ k; phase = Going } → Goes ctx s first (going m p stack) (c + 1)
     push_goes first done t d left ws p start stack steps long pending given becomes =
@@ -275,7 +334,7 @@ module _ (ctx : Setting) where
 
         cost : cost_of (ctx.stack.frame ∷ ctx.stack.callers) + length ws ≤ frame_of (loaded_at ctx.library s.loaded (owner_of (slice_get s.activations (current k)))) proc + 17 + chain ctx.library s.loaded s.activations k
         cost =
-            let all = pending_cost ctx k proc levels done (t ∷ []) left start c a pending (shared_costs ctx s m shared) (λ y p c a rows costs. items_cost y k Quiet p [] c a rows costs) in
+            let all = pending_cost ctx k proc levels done (t ∷ []) left start c a pending (shared_costs ctx s m shared) (λ y t p stack c a rows costs. items_cost y k t p stack c a rows costs) in
             let same : frame_of (loaded_at ctx.library s.loaded (owner_of (slice_get s.activations (current k)))) proc + 17 + chain ctx.library s.loaded s.activations k ≡ frame_of (loaded_at ctx.library ctx.loaded (owner_of (slice_get ctx.activations (current k)))) proc + 17 + chain ctx.library ctx.loaded ctx.activations k =
             ap (λ (ns : List ℕ). frame_of (loaded_at ctx.library ns (owner_of (slice_get s.activations (current k)))) proc + 17 + chain ctx.library ns s.activations k) shared.loaded_are
             ∙ ap (λ (acts : List Activation). frame_of (loaded_at ctx.library ctx.loaded (owner_of (slice_get acts (current k)))) proc + 17 + chain ctx.library ctx.loaded acts k) shared.activations_are in
@@ -318,7 +377,7 @@ module _ (ctx : Setting) where
     one_push : (w p start : ℕ) (stack : List ℕ) → stack ≡ w ∷ [] → IsAt piece p Psh start → mstep (going m p stack) ≡ longer_row 1 (spliced m.store m.top (w ∷ [])) start [] (going m p stack)
     one_push w p start stack is push = at_step ctx (going m p stack) shared.program Psh start push ∙ ap (λ (z : List ℕ). on_one (going m p stack) z (word_row start (going m p stack))) is
 
-    pub given_goes : (to : Kind) (done : List Datum) (left : List Argument) (v : Scalar) (kind : Kind) → within kind v ≡ true → Refers h kind v → (below : List ℕ) → m.stack ≡ word_for h v ∷ below → ValueWaits ctx proc levels to done left (RowsOf k) (ValueOf kind) m.place below c a
+    pub given_goes : (to : Kind) (done : List Datum) (left : Arguments) (v : Scalar) (kind : Kind) → within kind v ≡ true → Refers h kind v → (below : List ℕ) → m.stack ≡ word_for h v ∷ below → ValueWaits ctx proc levels to done left (RowsOf k) (ValueOf kind) m.place below c a
         → Goes ctx s (Value (Scalars v) ∷ Fill (Pass (Called proc levels) to done left) ∷ k) m (c + 32)
     given_goes to done left v kind fit refers below is row =
         let items : List Item = Value (Scalars v) ∷ Fill (Pass (Called proc levels) to done left) ∷ k in
@@ -335,7 +394,7 @@ module _ (ctx : Setting) where
         (λ room. alone_given ctx s m shared (word_for h v) room to v (record { word = refl; fits = within_base to v one; refers = led }) (top_pushed (word_for h v) room)) (ap becomes one))
         (omega arith)
 
-    pub given_place_goes : (done : List Datum) (left : List Argument) (place : Place) (d : Designator) (below : List ℕ) → Designates ctx d place m.stack below → PlaceWaits ctx proc levels done left (RowsOf k) (AtPlace d) m.place below c a
+    pub given_place_goes : (done : List Datum) (left : Arguments) (place : Place) (d : Designator) (below : List ℕ) → Designates ctx d place m.stack below → PlaceWaits ctx proc levels done left (RowsOf k) (AtPlace d) m.place below c a
         → Goes ctx s (Value (Places place) ∷ Fill (PassPlace (Called proc levels) done left) ∷ k) m (c + 32)
     given_place_goes done left place d below has row =
         let items : List Item = Value (Places place) ∷ Fill (PassPlace (Called proc levels) done left) ∷ k in
@@ -349,7 +408,7 @@ module _ (ctx : Setting) where
         (omega arith)
 
     -- all that lies at a place
-    pub given_all_goes : (done : List Datum) (left : List Argument) (place : Place) (d : Designator) (below : List ℕ) → Designates ctx d place m.stack below → AllWaits ctx proc levels done left (RowsOf k) (AtPlace d) m.place below c a
+    pub given_all_goes : (done : List Datum) (left : Arguments) (place : Place) (d : Designator) (below : List ℕ) → Designates ctx d place m.stack below → AllWaits ctx proc levels done left (RowsOf k) (AtPlace d) m.place below c a
         → Goes ctx s (Value (Places place) ∷ Fill (PassAll (Called proc levels) done left) ∷ k) m (c + 32)
     given_all_goes done left place d below has row =
         let items : List Item = Value (Places place) ∷ Fill (PassAll (Called proc levels) done left) ∷ k in
@@ -373,3 +432,65 @@ module _ (ctx : Setting) where
         (subst (λ (e : Designator). Pending ctx proc levels done (shape_of l.scope e ∷ []) left (RowsOf k) row.start c a) (sym same) row.pending)
         (λ room. block_given ctx s m shared place t has.living has.there ws room long (λ i less. get_or-take (words t) (drop from m.store) i 0 less ∙ get_or-drop from m.store i 0)) refl)
         (omega arith)
+
+-- ---- a function's value: the words of the expression stack are saved, and then comes the mark
+saved_long : (stack : List ℕ) → length (reverse stack ++ length stack ∷ []) ≡ length stack + 1
+saved_long stack = length-append (reverse stack) (length stack ∷ []) ∙ ap (λ (n : ℕ). n + 1) (length-reverse stack)
+
+module _ (ctx : Setting) (s : Source) (k : List Item) (m : State) (c : ℕ) (a : Around) (shared : Shared ctx s m) (proc levels : ℕ) (kind : Kind) (given : Arguments) (row : Waiting ctx (Evaluate (Invoke proc levels kind given)) (Rows ctx k) Quiet m.place m.stack c a) where
+  open frame_at ctx use {piece}
+  open laid_out ctx use {layout as l}
+
+  abbrev invoking : List Item
+  invoking = Evaluate (Invoke proc levels kind given) ∷ k
+
+  abbrev passed : Source
+  passed = record s { items = Perform (Passing (Called proc levels) [] given) ∷ k; phase = Going }
+
+  abbrev ws : List ℕ
+  ws = reverse m.stack ++ length m.stack ∷ []
+
+  here : InvokeRow l piece proc levels kind given (GivenAt l piece given) m.place row.part.end
+  here = row.part.here
+
+  long : length ws ≡ length m.stack + 1
+  long = saved_long m.stack
+
+  saving : mstep m ≡ save_row here.saved m
+  saving = at_step ctx m shared.program Sav here.saved here.save
+
+  no_room : m.limit < m.top + length ws → Goes ctx s invoking m (c + 32)
+  no_room less =
+      goes_full ctx s invoking m (c + 32) limit.Stack (saving ∙ yes _ _ _ (lt-ltb m.limit (m.top + length ws) less)) (
+        short ctx s k m c a shared proc levels passed (length ws) _ less (let low = shared_cost ctx s m shared k _ _ _ _ _ row.then in omega (arith, low, long, row.part.shallow)) refl refl refl,
+        inr (calling ctx s k m c a shared proc levels (current k) (closed ctx k _ _ _ _ _ row.then) here.call.may passed (refl, refl, refl, refl)),
+      ) (omega arith)
+
+  saves : m.top + length ws ≤ ctx.stack.limit → Goes ctx s invoking m (c + 32)
+  saves room =
+      let x : Home = taking ctx s m shared ws room in
+      let machine : State = record m { place = here.saved; stack = []; top = m.top + length ws; store = spliced m.store m.top ws } in
+      let words = words_here ctx s k m c a shared proc levels in
+      let loops = loops_fit k ctx _ row.part.end m.stack c a words.mark row.then in
+      let top : ctx.stack.frame.at + (ctx.stack.frame.layout.frame + ctx.stack.frame.pushed) ≡ m.top = sym words.top_is in
+      goes_after_pushed ctx s invoking m machine x (length ws) (c + 32) (c + 31)
+      (advances m s.world _ (saving ∙ no _ _ _ (le-ltb m.limit (m.top + length ws) (omega (arith, room, shared.standing.limit_is)))))
+      (touches_pushed ctx s m shared ws room)
+      (mark_goes (pushing (at_home ctx x) (length ws)) s k machine c a (shared_pushed ctx s m shared ws room) proc levels given
+      (record {
+        resumed = AValue kind m.stack;
+        end = here.end;
+        here = here.call;
+        under = ctx.stack.frame.pushed;
+        pushed = omega (arith, long);
+        saved = (omega (arith, row.part.shallow), λ i less. ap (λ (j : ℕ). x.shadow (j + i)) top ∙ shadow_pushed ctx s m shared ws room i (omega (arith, less, long)));
+        after = row.part.end;
+        restore = here.restore;
+        within = row.part.within;
+        then = rows_kept k ctx x ctx.stack.limit (ctx.stack.base + 4) (stack_above ctx _ shared.standing).1 _ row.part.end m.stack c a (keeps_pushed ctx s m shared ws room (loop_place a.taken) loops) row.then;
+      })
+      refl invoking refl)
+      (omega arith)
+
+  pub invoke_goes : Goes ctx s (Evaluate (Invoke proc levels kind given) ∷ k) m (c + 32)
+  invoke_goes = ⊎_elim (λ less. no_room less) (λ (some : m.top + length ws ≤ m.limit). saves (omega (arith, some, shared.standing.limit_is))) (cases_lt m.limit (m.top + length ws))

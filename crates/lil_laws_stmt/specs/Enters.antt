@@ -3,17 +3,17 @@ use Rattle.std.proofs.Common.{◌≡◌, ℕ, zero, suc, ◌+◌, ◌-◌, ◌<�
 use Rattle.std.specs.{Prelude.{slice_get, option_map, option_and_then, ◌==◌, ◌&&◌, ◌||◌}, List.list_any}
 use Rattle.std.proofs.lemmas.{Bool.{lt-ltb, le-ltb, le-leb, cases_lt, and_from}, Option.{same_Some, slice_get_within, slice_get-map}, List.{length_push, append-nil, take-append-drop}}
 use Rattle.lil_base.specs.declared.fault.LimitKind.TheVariants as limit
-use Rattle.lil_resolved.specs.{Kinds.{MayCall, Declared, Outline, Kind, Scalar, Shape, Absent, Address, Word, is_there, part_at, all_words, offset as part_offset, offsets_from, locals_of, parameters_of}, Resolved.{Procedure, Statements, Empty, Then, Resolved, procedure_by, outline_of}, Sizes.frame_words, Plain.parameter_variable}
-use Rattle.lil_meaning.specs.{Items.{Root, Global, Local, Object, Datum, Called, Passing, with_locals, loaded_at, End, Item, Perform, Activation, Going, Source, doing}, Need.{HasCalls, frame_of, cost, unless_body, with_callers, chain}, Steps.{next, current, owner_of, procedure_of, procedures_of, procedure_name, its_name, outer_of, level_out, declaring, entered, called_by, slots_by}}
+use Rattle.lil_resolved.specs.{Kinds.{result_of, result_here, MayCall, Declared, Outline, Kind, Scalar, Shape, Absent, Address, Word, is_there, part_at, all_words, offset as part_offset, offsets_from, locals_of, parameters_of}, Resolved.{NoMore, Procedure, Statements, Empty, Then, Resolved, procedure_by, outline_of}, Sizes.frame_words, Plain.parameter_variable}
+use Rattle.lil_meaning.specs.{Items.{Root, Global, Local, Object, Datum, Called, Passing, with_locals, loaded_at, End, Item, Perform, Activation, Going, Source, doing}, Need.{HasCalls, frame_of, cost, unless_body, with_callers, chain}, Steps.{procedure_result, next, current, owner_of, procedure_of, procedures_of, procedure_name, its_name, outer_of, level_out, declaring, entered, called_by, slots_by}}
 use Rattle.lil_asm.specs.{declared.instr.Instr.TheVariants.{Cll, Ent, Rtn}, Stretches.stretch}
 use Rattle.lil_mcode.specs.Table.{Module, State, stack_of, module_at, mstep, its_entry, entry_in, call_row, called_row, enter_row}
 use Rattle.lil_frames.specs.Words.{spliced, zeros, cleared}
-use Rattle.lil_table.specs.Rows.{Layout, IsAt, framed, exactly, BodyAt, loop_place}
+use Rattle.lil_table.specs.Rows.{leave_code, Layout, IsAt, framed, exactly, BodyAt, loop_place}
 use Rattle.lil_match.specs.{Goes.{OwnWords, Stands, IsPiece, IsHeap, IsUnborn, HasLocals, HasHanded, EachHanded, EachLocal, Chained, Grows, Linked, Entered, IsKnown, Shared, IsShort, Lands, Goes}, Running.{running, advanced}, Parts.{yes, no}, Homes.{Of, Own, Fixed, Home, Ours, ours_fixed, address, IsWord, is_word_kept, lives, extends_self, Mem, Stays, Turns, mem_turned}, Splices.{spliced_length, spliced_before, spliced_there, spliced_after, zeros_length, zeros_word}}
-use Rattle.lil_match.specs.{Waits.{Quiet, Around, outside, own_words, locals_in, parameters_in, top_of, is_of, sees, with_frames, Frame, Stack, frames_of, Setting, renewed, pushing, IsLink, AllGiven, PendingWaits, RowsOf, Rows, Ahead}, Known.{known_kept, each_known, each_comes, each_local, seen_within}, Kept.{EachAbove, place_lives, sees_pushed, each_handed, first_words, stack_above, stands_kept, chained_kept, loops_fit, rows_renewed}, Laid.known_part}
-use Rattle.lil_match.specs.{Costs.{cost_of, known_costs, each_costs, items_cost, top_low}, Climbs.{Climbs, climbs, first_own}, Steps.{closed, advances, at_step, at_once, rows_ahead, goes_after, goes_full, goes_one_grown}, Orders.instr_within}
+use Rattle.lil_match.specs.{Waits.{Resumed, AreSaved, saved_words, result_in, resumed_mode, resumed_stack, RestoresAt, Quiet, Around, outside, own_words, locals_in, parameters_in, top_of, is_of, sees, with_frames, Frame, Stack, frames_of, Setting, renewed, pushing, IsLink, AllGiven, PendingWaits, RowsOf, Rows, Ahead}, Known.{known_kept, each_known, each_comes, each_local, seen_within}, Kept.{saved_kept, EachAbove, place_lives, sees_pushed, each_handed, first_words, stack_above, stands_kept, chained_kept, loops_fit, rows_renewed}, Laid.known_part}
+use Rattle.lil_match.specs.{Costs.{saved_low, cost_of, known_costs, each_costs, items_cost, top_low}, Climbs.{Climbs, climbs, first_own}, Steps.{closed, advances, at_step, at_once, rows_ahead, goes_after, goes_full, goes_one_grown}, Orders.instr_within}
 use Rattle.lil_laws_stmt.specs.{Locals.{born, IsOther, base_other, shape_other, base_there, shape_there as born_shape, owner_other, owner_there, owner_handed, mem_born, mem_entered, fresh_local}, Painting.{painted, painted_there, painted_beside, Side, Before, Between, Behind', side}, Control.body_rows}
-use Rattle.lil_laws_stmt.specs.{Calls.{Found, found, frame_known}, Given.{slots_here, handed_word, handed_low, given_cells}, Pushes.{known_repushed, links_repushed, locals_repushed, handed_repushed}}
+use Rattle.lil_laws_stmt.specs.{Calls.{Found, found, frame_known}, Given.{slots_here, handed_word, handed_low, given_cells}, Pushes.{with_pushed, known_repushed, links_repushed, locals_repushed, handed_repushed}}
 
 -- ---- lists of activations
 last_there : (xs : List Activation) (a : Activation) → slice_get (xs ++ a ∷ []) (length xs) ≡ Some a
@@ -57,7 +57,7 @@ doing_chain : (library : List Resolved) (loaded : List ℕ) (acts : List Activat
 doing_chain library loaded acts Empty k = refl
 doing_chain library loaded acts (Then s ss) k = let rest = doing_chain library loaded acts ss k in omega (arith, rest)
 
--- what is known around the arguments of a call that are all there
+-- what is known around the arguments of a call that are all there, behind what was saved for it
 pub record Complete (before : Setting) (k : List Item) (proc levels : ℕ) (shapes : List Shape) (done : List Datum) (p c : ℕ) (a : Around) : Type 0 where
   pub may : MayCall before.stack.frame.layout.scope proc levels
   pub takes : parameters_of (procedure_by before.stack.frame.layout.scope.procedures proc) ≡ shapes
@@ -65,7 +65,15 @@ pub record Complete (before : Setting) (k : List Item) (proc levels : ℕ) (shap
   pub given : AllGiven (pushing before (4 + all_words shapes)) shapes done (top_of before.stack.frame + 4)
   pub end : ℕ
   pub call : IsAt before.stack.frame.piece p (Cll proc (framed (all_words shapes))) end
-  pub then : Rows before k Quiet end [] c a
+  pub resumed : Resumed
+  pub returns : result_of (procedure_by before.stack.frame.layout.scope.procedures proc) ≡ result_in resumed
+  pub under : ℕ
+  pub pushed : before.stack.frame.pushed ≡ saved_words resumed + under
+  pub saved : AreSaved before.home.shadow resumed (before.stack.frame.at + (before.stack.frame.layout.frame + under))
+  pub after : ℕ
+  pub restore : RestoresAt before.stack.frame.piece resumed end after
+  pub within : after < length before.stack.frame.piece
+  pub then : Rows (with_pushed before under) k (resumed_mode resumed) after (resumed_stack resumed) c a
 
 module _ (before : Setting) (shapes : List Shape) (done : List Datum) (s : Source) (k : List Item) (m : State) (c : ℕ) (a : Around) (shared : Shared (pushing before (4 + all_words shapes)) s m) (proc levels : ℕ) (w : Complete before k proc levels shapes done m.place c a) (empty : m.stack ≡ []) where
   abbrev ctx : Setting
@@ -81,17 +89,17 @@ module _ (before : Setting) (shapes : List Shape) (done : List Datum) (s : Sourc
   gs = before.stack.callers
 
   abbrev items : List Item
-  items = Perform (Passing (Called proc levels) done []) ∷ k
+  items = Perform (Passing (Called proc levels) done NoMore) ∷ k
 
   abbrev now : Source
-  now = record s { items = Perform (Passing (Called proc levels) done []) ∷ k; phase = Going }
+  now = record s { items = Perform (Passing (Called proc levels) done NoMore) ∷ k; phase = Going }
 
   -- the frame that calls, without what is pushed
   known : IsKnown before.library before.loaded before.table before.activations before.home before.stack.frame
   known = known_repushed f ((4 + all_words shapes) + f.pushed) f.pushed before.library before.loaded before.table before.activations before.home shared.standing.known
 
   close : current k ≡ before.stack.frame.activation
-  close = closed before k _ _ _ _ _ w.then
+  close = closed (with_pushed before w.under) k _ _ _ _ _ w.then
 
   -- what is called, on both sides
   abbrev what : Found (procedures_of (loaded_at before.library before.loaded before.stack.frame.number)) proc w.may.its
@@ -142,6 +150,17 @@ module _ (before : Setting) (shapes : List Shape) (done : List Datum) (s : Sourc
 
   runs : slice_get all (length s.activations) ≡ Some new
   runs = ap (λ (z : List Activation). slice_get all (length z)) shared.activations_are ∙ last_there before.activations new
+
+  -- what it returns, as those who call know it
+  its_result : result_of (procedure_by before.stack.frame.layout.scope.procedures proc) ≡ its.result
+  its_result = ap result_of w.may.known ∙ ap (λ (o : Outline). o.result) (sym what.same)
+
+  -- as its own layout says
+  result_inside : result_here code.inner.scope ≡ its.result
+  result_inside =
+      ap (λ (ps : List ℕ). result_of (option_and_then (procedure_by code.inner.scope.procedures) (slice_get ps 0))) code.chain
+      ∙ ap (λ (y : Layout). result_of (procedure_by y.scope.procedures proc)) code.part
+      ∙ its_result
 
   number : Numbered proc
   number = numbered (procedures_of (loaded_at before.library before.loaded before.stack.frame.number)) proc its what.there
@@ -201,7 +220,7 @@ module _ (before : Setting) (shapes : List Shape) (done : List Datum) (s : Sourc
   above = stack_above ctx (stack_of m) shared.standing
 
   loops : loop_place a.taken ≤ before.stack.frame.layout.frame
-  loops = loops_fit k before Quiet w.end [] c a words.mark w.then
+  loops = loops_fit k (with_pushed before w.under) _ w.after _ c a words.mark w.then
 
   -- ---- the new frame
   -- the frames from the one on in which the procedure was declared
@@ -278,8 +297,8 @@ module _ (before : Setting) (shapes : List Shape) (done : List Datum) (s : Sourc
 
   -- ---- without room
   -- what the next state needs
-  calls_cost : (frame_words its.locals its.body + 17) + cost_of (before.stack.frame ∷ before.stack.callers) ≤ chain before.library s.loaded entering.activations entering.items
-  calls_cost = omega (arith, same, under)
+  calls_cost : frame_words its.locals its.body + cost_of (before.stack.frame ∷ before.stack.callers) ≤ chain before.library s.loaded entering.activations entering.items
+  calls_cost = omega (arith, same, under, w.pushed, saved_low before.home.shadow w.resumed _ w.saved)
     where
       same : chain before.library s.loaded entering.activations entering.items ≡ (frame_words its.locals its.body + 17) + chain before.library before.loaded all k
       same =
@@ -291,13 +310,13 @@ module _ (before : Setting) (shapes : List Shape) (done : List Datum) (s : Sourc
           ∙ ap (λ (i : ℕ). (frame_of (loaded_at before.library before.loaded i) proc + 17) + chain before.library before.loaded all k) owner_is
           ∙ ap (λ (w : ℕ). (w + 17) + chain before.library before.loaded all k) (frame_known (loaded_at before.library before.loaded before.stack.frame.number) proc its listed)
 
-      under : cost_of (before.stack.frame ∷ before.stack.callers) ≤ chain before.library before.loaded all k
+      under : cost_of ((with_pushed before w.under).stack.frame ∷ before.stack.callers) ≤ chain before.library before.loaded all k
       under =
-          items_cost (renewed before all before.home before.stack.limit) k Quiet w.end [] c a
-          (rows_renewed k before all before.home before.stack.limit (before.stack.base + 4) above.1 Quiet w.end [] c a
+          items_cost (renewed (with_pushed before w.under) all before.home before.stack.limit) k _ w.after _ c a
+          (rows_renewed k (with_pushed before w.under) all before.home before.stack.limit (before.stack.base + 4) (above.1.0, above.1.1) _ w.after _ c a
           (record { pushed = λ i less. refl; shadow = λ i from below. refl; base = λ r e l. refl; shape = λ r e l. refl; targets = refl; workspaces = extends_self before.home.workspaces })
           w.then) (
-            known_costs before.library before.loaded before.table all before.home before.stack.frame (known_kept before.library before.loaded before.table before.activations all grows before.home before.home (λ r e. refl) (λ r e. refl) refl (λ i e. (e, refl)) before.stack.frame known),
+            known_costs before.library before.loaded before.table all before.home (record f { pushed = w.under }) (known_repushed f f.pushed w.under before.library before.loaded before.table all before.home (known_kept before.library before.loaded before.table before.activations all grows before.home before.home (λ r e. refl) (λ r e. refl) refl (λ i e. (e, refl)) before.stack.frame known)),
             each_costs before.library before.loaded before.table all before.home before.stack.callers (each_known before.library before.loaded before.table before.activations all grows before.home before.home (λ r e. refl) (λ r e. refl) refl (λ i e. (e, refl)) before.stack.callers shared.standing.callers),
           )
 
@@ -530,7 +549,7 @@ module _ (before : Setting) (shapes : List Shape) (done : List Datum) (s : Sourc
         known_part before.library before.loaded before.table before.activations all x before.stack.frame code.inner (length s.activations) proc code.entry code.after (stretch code.entry code.after before.stack.frame.own.code) (top_of before.stack.frame) 0 (top_of before.stack.frame ∷ outward levels) w.end code.part new runs (ap owner_of runs ∙ owner_is) (ap procedure_of runs)
         (record { there = code.there ∙ ap (λ (n : Option (List ℕ)). Some (code.entry, n)) (sym (name_known (loaded_at before.library before.loaded before.stack.frame.number) proc its listed)); apart = code.apart })
         piece_is
-        (code.frame ∙ sym (frame_known (loaded_at before.library before.loaded before.stack.frame.number) proc its listed)) kept
+        (code.frame ∙ sym (frame_known (loaded_at before.library before.loaded before.stack.frame.number) proc its listed)) (result_inside ∙ sym (ap procedure_result listed)) kept
 
     -- its first word says where the frame of the activation around it begins
     linked : (n : ℕ) → levels ≡ n → Declared before.stack.frame.layout.scope.chain n its.around
@@ -629,11 +648,11 @@ module _ (before : Setting) (shapes : List Shape) (done : List Datum) (s : Sourc
     below_same : (i : ℕ) → i < top_of before.stack.frame → x.owner i ≡ before.home.owner i
     below_same i z = owner_beside i (inl z)
 
-    left : Rows (renewed before all x before.stack.limit) k Quiet w.end [] c a
+    left : Rows (renewed (with_pushed before w.under) all x before.stack.limit) k (resumed_mode w.resumed) w.after (resumed_stack w.resumed) c a
     left =
-        rows_renewed k before all x before.stack.limit (before.stack.base + 4) above.1 Quiet w.end [] c a
+        rows_renewed k (with_pushed before w.under) all x before.stack.limit (before.stack.base + 4) (above.1.0, above.1.1) _ w.after _ c a
         (record {
-          pushed = λ i less. shadow_beside (before.stack.frame.at + (before.stack.frame.layout.frame + i)) (inl (omega (arith, less)));
+          pushed = λ i less. shadow_beside (before.stack.frame.at + (before.stack.frame.layout.frame + i)) (inl (omega (arith, less, w.pushed)));
           shadow = λ i from below. shadow_beside i (inl (omega (arith, below, loops)));
           base = λ r seen e. base_kept r e;
           shape = λ r seen e. shape_kept r e;
@@ -700,7 +719,7 @@ module _ (before : Setting) (shapes : List Shape) (done : List Datum) (s : Sourc
             around = outside frame;
             ahead = subst (λ (z : List ℕ). Ahead within entering.items Quiet code.code.start z c (outside frame)) (sym empty)
                 (rows_ahead within entering.items code.code.start [] c (outside frame)
-                (body_rows within its.body (Perform (End (length s.activations)) ∷ k) code.code.start code.code.end c (outside frame) (subst (λ (n : ℕ). BodyAt (record (code.inner) { target = exactly }) (stretch code.entry code.after before.stack.frame.own.code) n None its.body code.code.start code.code.end) (sym words_are) code.code.body) (instr_within (stretch code.entry code.after before.stack.frame.own.code) code.code.end Rtn code.after code.code.leave)
+                (body_rows within its.body (Perform (End (length s.activations)) ∷ k) code.code.start code.code.end c (outside frame) (subst (λ (n : ℕ). BodyAt (record (code.inner) { target = exactly }) (stretch code.entry code.after before.stack.frame.own.code) n None its.body code.code.start code.code.end) (sym words_are) code.code.body) (instr_within (stretch code.entry code.after before.stack.frame.own.code) code.code.end (leave_code its.result) code.after code.code.leave)
                 (at_once within _ Quiet code.code.end [] c (outside frame)
                 (record {
                   quiet = refl;
@@ -710,10 +729,18 @@ module _ (before : Setting) (shapes : List Shape) (done : List Datum) (s : Sourc
                   free = code.free;
                   idle = refl;
                   end = code.after;
-                  leave = code.code.leave;
+                  leave = subst (λ (r : Option Kind). IsAt (stretch code.entry code.after before.stack.frame.own.code) code.code.end (leave_code r) code.after) (sym result_inside) code.code.leave;
                   behind = record {
                     before = number.before;
                     called = number.is;
+                    resumed = w.resumed;
+                    returns = result_inside ∙ sym its_result ∙ w.returns;
+                    under_saved = w.under;
+                    pushed_is = w.pushed;
+                    saved = saved_kept h.shadow x.shadow w.resumed (before.stack.frame.at + (before.stack.frame.layout.frame + w.under)) (λ i less. shadow_beside _ (inl (omega (arith, less, w.pushed)))) w.saved;
+                    after = w.after;
+                    restore = w.restore;
+                    within = w.within;
                     outer = a;
                     under = omega (arith, loops);
                     mark = omega (arith, words.mark);
@@ -739,7 +766,7 @@ module _ (before : Setting) (shapes : List Shape) (done : List Datum) (s : Sourc
         grows
         (omega arith)
 
-  complete_goes : Goes ctx s (Perform (Passing (Called proc levels) done []) ∷ k) m (c + 32)
+  complete_goes : Goes ctx s (Perform (Passing (Called proc levels) done NoMore) ∷ k) m (c + 32)
   complete_goes =
       goes_after ctx s items m called (c + 32) (c + 30) calls
       (⊎_elim (λ (less : m.limit < top_of before.stack.frame + frame_words its.locals its.body).
@@ -753,21 +780,33 @@ module _ (before : Setting) (shapes : List Shape) (done : List Datum) (s : Sourc
       (omega arith)
 
 -- THE law of a call: the procedure begins, or its frame finds no room
-pub enter_goes : (ctx : Setting) (s : Source) (k : List Item) (m : State) (c : ℕ) (a : Around) → Shared ctx s m → (proc levels : ℕ) (done : List Datum) → PendingWaits ctx proc levels done [] (RowsOf k) Quiet m.place m.stack c a
-    → Goes ctx s (Perform (Passing (Called proc levels) done []) ∷ k) m (c + 32)
+pub enter_goes : (ctx : Setting) (s : Source) (k : List Item) (m : State) (c : ℕ) (a : Around) → Shared ctx s m → (proc levels : ℕ) (done : List Datum) → PendingWaits ctx proc levels done NoMore (RowsOf k) Quiet m.place m.stack c a
+    → Goes ctx s (Perform (Passing (Called proc levels) done NoMore) ∷ k) m (c + 32)
 enter_goes ctx s k m c a shared proc levels done row =
     let w = row.pending in
+    let saved : ℕ = saved_words w.resumed in
+    let before : Setting = pushing w.before saved in
+    let is : ctx ≡ pushing before (4 + all_words w.shapes) = w.is ∙ ap (with_pushed w.before) (let e : saved + (4 + all_words w.shapes) + w.before.stack.frame.pushed ≡ 4 + all_words w.shapes + (saved + w.before.stack.frame.pushed) = omega arith in e) in
+    let first : top_of w.before.stack.frame + saved ≡ top_of before.stack.frame = omega arith in
     let here = subst (λ (p : ℕ). IsAt ctx.stack.frame.piece p (Cll proc (framed (all_words w.shapes))) w.end) (sym w.arguments)
     (subst (λ (n : ℕ). IsAt ctx.stack.frame.piece w.middle (Cll proc (framed n)) w.end) (let e : all_words w.shapes + (0 + 0) ≡ all_words w.shapes = omega arith in e) w.call) in
-    subst (λ (y : Setting). Goes y s (Perform (Passing (Called proc levels) done []) ∷ k) m (c + 32)) (sym w.is)
-    (complete_goes w.before w.shapes done s k m c w.outer (subst (λ (y : Setting). Shared y s m) w.is shared) proc levels
+    subst (λ (y : Setting). Goes y s (Perform (Passing (Called proc levels) done NoMore) ∷ k) m (c + 32)) (sym is)
+    (complete_goes before w.shapes done s k m c w.outer (subst (λ (y : Setting). Shared y s m) is shared) proc levels
     (record {
-      may = subst (λ (y : Setting). MayCall y.stack.frame.layout.scope proc levels) w.is w.may;
-      takes = subst (λ (y : Setting). parameters_of (procedure_by y.stack.frame.layout.scope.procedures proc) ≡ w.shapes) w.is (w.takes ∙ append-nil w.shapes);
-      link = subst (λ (y : Setting). IsLink y.stack.frame.display levels (y.home.shadow (top_of w.before.stack.frame))) w.is w.link;
-      given = subst (λ (y : Setting). AllGiven y w.shapes done (top_of w.before.stack.frame + 4)) w.is w.given;
+      may = subst (λ (y : Setting). MayCall y.stack.frame.layout.scope proc levels) is w.may;
+      takes = subst (λ (y : Setting). parameters_of (procedure_by y.stack.frame.layout.scope.procedures proc) ≡ w.shapes) is (w.takes ∙ append-nil w.shapes);
+      link = subst (λ (y : Setting). IsLink y.stack.frame.display levels (y.home.shadow (top_of before.stack.frame))) is (subst (λ (i : ℕ). IsLink ctx.stack.frame.display levels (ctx.home.shadow i)) first w.link);
+      given = subst (λ (y : Setting). AllGiven y w.shapes done (top_of before.stack.frame + 4)) is (subst (λ (i : ℕ). AllGiven ctx w.shapes done (i + 4)) first w.given);
       end = w.end;
-      call = subst (λ (y : Setting). IsAt y.stack.frame.piece m.place (Cll proc (framed (all_words w.shapes))) w.end) w.is here;
+      call = subst (λ (y : Setting). IsAt y.stack.frame.piece m.place (Cll proc (framed (all_words w.shapes))) w.end) is here;
+      resumed = w.resumed;
+      returns = subst (λ (y : Setting). result_of (procedure_by y.stack.frame.layout.scope.procedures proc) ≡ result_in w.resumed) is w.returns;
+      under = w.before.stack.frame.pushed;
+      pushed = refl;
+      saved = subst (λ (y : Setting). AreSaved y.home.shadow w.resumed (w.before.stack.frame.at + (w.before.stack.frame.layout.frame + w.before.stack.frame.pushed))) is w.saved;
+      after = w.after;
+      restore = subst (λ (y : Setting). RestoresAt y.stack.frame.piece w.resumed w.end w.after) is w.restore;
+      within = subst (λ (y : Setting). w.after < length y.stack.frame.piece) is w.within;
       then = w.then;
     })
     row.empty)

@@ -4,15 +4,15 @@ use Rattle.lil_meaning.specs.Items.{Place, Wholes, Opens, Texts, under}
 use Rattle.lil_match.specs.Homes.{IsWord, is_word_kept, address, shape_there}
 use Rattle.lil_match.specs.Parts.{part_append, offset_append as part_offset_append, part_fits, word_long}
 use Rattle.lil_table.specs.Rows.{given_words}
-use Rattle.lil_resolved.specs.Resolved.{Resolved, Argument}
+use Rattle.lil_resolved.specs.Resolved.{Resolved, Argument, Arguments, NoMore, Also}
 use Rattle.lil_meaning.specs.Items.{Activation, Item}
 use Rattle.lil_mcode.specs.Table.{Module}
 use Rattle.std.proofs.Common.{append_assoc, map, true}
 use Rattle.std.proofs.lemmas.List.{length_push}
-use Rattle.lil_match.specs.Waits.{Around, RowsOf, Pending, top_of}
+use Rattle.lil_match.specs.Waits.{Around, RowsOf, Pending, saved_words, top_of}
 use Rattle.lil_asm.specs.declared.instr.Instr.TheVariants.{Cll}
 use Rattle.lil_table.specs.Rows.{IsAt, framed}
-use Rattle.lil_resolved.specs.Sound.{parameter_of}
+use Rattle.lil_resolved.specs.Sound.{parameter_of, parameters_given}
 use Rattle.std.proofs.Common.{◌≡◌, ℕ, suc, ◌+◌, ◌<◌, ◌≤◌, ◌⊎◌, inl, inr, List, [], ◌∷◌, ◌++◌, length, get_or, refl, sym, ap, ◌∙◌, subst, ⊎_elim, arith}
 use Rattle.lil_resolved.specs.Kinds.{Shape, Word, Address}
 use Rattle.lil_meaning.specs.Items.{Local, Datum, Scalars, Places, Source}
@@ -27,6 +27,10 @@ none_under x q k j e = (let gone : Absent ≡ Word j = e in cc)
 
 same_kind : (k j : Kind) → Word k ≡ Word j → k ≡ j
 same_kind k j e = cc
+
+-- a setting in which so many words are pushed
+abbrev pub with_pushed : Setting → ℕ → Setting
+with_pushed before n = record before { stack = record (before.stack) { frame = record (before.stack.frame) { pushed = n } } }
 
 -- what was given doesn't hang on what is pushed
 pub words_pushed : (ctx : Setting) (n : ℕ) (t : Shape) (d : Datum) (at : ℕ) → GivenWords ctx t d at → GivenWords (pushing ctx n) t d at
@@ -63,7 +67,7 @@ module _ (f : Frame) (n more : ℕ) where
 
   pub known_repushed : (library : List Resolved) (loaded : List ℕ) (table : List Module) (acts : List Activation) (h : Home) → IsKnown library loaded table acts h (record f { pushed = n }) → IsKnown library loaded table acts h (record f { pushed = more })
   known_repushed library loaded table acts h k =
-      known_part library loaded table acts acts h before f.layout f.activation f.procedure f.entry f.after f.piece f.at more f.display f.back refl k.its k.runs k.owner k.called (record { there = k.entered.there; apart = k.entered.apart }) (record { is = k.piece.is; within = k.piece.within }) k.size k
+      known_part library loaded table acts acts h before f.layout f.activation f.procedure f.entry f.after f.piece f.at more f.display f.back refl k.its k.runs k.owner k.called (record { there = k.entered.there; apart = k.entered.apart }) (record { is = k.piece.is; within = k.piece.within }) k.size k.returns k
 
   pub links_repushed : (shadow : ℕ → ℕ) (acts : List Activation) (gs : List Frame) → Chained shadow acts (record f { pushed = n }) gs → Chained shadow acts (record f { pushed = more }) gs
   links_repushed shadow acts [] c = c
@@ -236,25 +240,30 @@ module _ (ctx : Setting) (s : Source) (m : State) (shared : Shared ctx s m) (ws 
   }
 
 -- the next argument was pushed
-pub pending_more : (ctx : Setting) (k : List Item) (q levels : ℕ) (done : List Datum) (t : Shape) (d : Datum) (left : List Argument) (p c : ℕ) (a : Around) → Pending ctx q levels done (t ∷ []) left (RowsOf k) p c a → GivenWords ctx t d (top_of ctx.stack.frame)
+pub pending_more : (ctx : Setting) (k : List Item) (q levels : ℕ) (done : List Datum) (t : Shape) (d : Datum) (left : Arguments) (p c : ℕ) (a : Around) → Pending ctx q levels done (t ∷ []) left (RowsOf k) p c a → GivenWords ctx t d (top_of ctx.stack.frame)
     → Pending (pushing ctx (words t)) q levels (done ++ d ∷ []) [] left (RowsOf k) p c a
 pending_more ctx k q levels done t d left p c a w word =
     let long : all_words (w.shapes ++ t ∷ []) ≡ all_words w.shapes + words t = more_words w.shapes t in
-    let top : top_of ctx.stack.frame ≡ top_of w.before.stack.frame + 4 + all_words w.shapes =
+    let top : top_of ctx.stack.frame ≡ top_of w.before.stack.frame + saved_words w.resumed + 4 + all_words w.shapes =
     omega (arith, ap (λ (y : Setting). y.stack.frame.at) w.is, ap (λ (y : Setting). y.stack.frame.layout.frame) w.is, ap (λ (y : Setting). y.stack.frame.pushed) w.is) in
     record {
       before = w.before;
       shapes = w.shapes ++ t ∷ [];
+      resumed = w.resumed;
       is = ap (λ (y : Setting). pushing y (words t)) w.is
-          ∙ ap (λ (n : ℕ). record (w.before) { stack = record (w.before.stack) { frame = record (w.before.stack.frame) { pushed = n } } }) (let e : words t + ((4 + all_words w.shapes) + w.before.stack.frame.pushed) ≡ (4 + all_words (w.shapes ++ t ∷ [])) + w.before.stack.frame.pushed = omega (arith, long) in e);
+          ∙ ap (λ (n : ℕ). record (w.before) { stack = record (w.before.stack) { frame = record (w.before.stack.frame) { pushed = n } } }) (let e : words t + ((saved_words w.resumed + (4 + all_words w.shapes)) + w.before.stack.frame.pushed) ≡ (saved_words w.resumed + (4 + all_words (w.shapes ++ t ∷ []))) + w.before.stack.frame.pushed = omega (arith, long) in e);
+      saved = w.saved;
+      returns = w.returns;
+      after = w.after;
+      restore = w.restore;
       outer = w.outer;
       around = w.around;
       may = w.may;
-      takes = w.takes ∙ sym (append_assoc w.shapes (t ∷ []) (map (parameter_of ctx.stack.frame.layout.scope) left));
+      takes = w.takes ∙ sym (append_assoc w.shapes (t ∷ []) (parameters_given ctx.stack.frame.layout.scope left));
       room = omega (arith, w.room, long);
       link = w.link;
-      given = given_pushed ctx (words t) (w.shapes ++ t ∷ []) (done ++ d ∷ []) (top_of w.before.stack.frame + 4)
-          (given_more ctx w.shapes done (top_of w.before.stack.frame + 4) t d w.given (subst (GivenWords ctx t d) top word));
+      given = given_pushed ctx (words t) (w.shapes ++ t ∷ []) (done ++ d ∷ []) (top_of w.before.stack.frame + saved_words w.resumed + 4)
+          (given_more ctx w.shapes done (top_of w.before.stack.frame + saved_words w.resumed + 4) t d w.given (subst (GivenWords ctx t d) top word));
       middle = w.middle;
       arguments = w.arguments;
       end = w.end;

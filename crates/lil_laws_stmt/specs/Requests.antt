@@ -5,7 +5,7 @@ use Rattle.std.proofs.lemmas.{Bool.{le-leb, leb-true, lt-ltb, cases_lt, and_from
 use Rattle.lil_base.specs.declared.fault.TrapKind.TheVariants as trap
 use Rattle.lil_base.specs.{Requests.{request_number, request_found, takes_array}, declared.request.Request.{Request, TheVariants.{Write, WriteString, WriteLn, WriteCard, WriteInt, WriteOct, WriteHex}}}
 use Rattle.lil_asm.specs.{Requests.request_words, declared.instr.Instr.TheVariants.{Liw, Lag, Svc}}
-use Rattle.lil_resolved.specs.{Kinds.{Kind, OfWhole, OfTruth, OfCharacter, OfEnumeration, OfSet, OfPointer, OfRange, is_plain, takes_value, stores_value, Scope, Scalar, Character, within, scalar_word, Shape, Absent, Word, Row, words, is_there, part_at, offset}, Resolved.{Designator, Argument, ByValue, OfPlace, OfAll, OfArray, OfText, kind_of, shape_of}, Sizes.argument_words, Sound.{request_parameters, parameter_of, is_text}}
+use Rattle.lil_resolved.specs.{Kinds.{Kind, OfWhole, OfTruth, OfCharacter, OfEnumeration, OfSet, OfPointer, OfRange, is_plain, takes_value, stores_value, Scope, Scalar, Character, within, scalar_word, Shape, Absent, Word, Row, words, is_there, part_at, offset}, Resolved.{Designator, Argument, Arguments, NoMore, Also, ByValue, OfPlace, OfAll, OfArray, OfText, kind_of, shape_of}, Sizes.argument_words, Sound.{request_parameters, parameter_of, parameters_given, is_text}}
 use Rattle.lil_resolved.specs.Resolved as resolved
 use Rattle.lil_meaning.specs.{Items.{Place, part_of, got, Datum, Scalars, Places, Wholes, Opens, Texts, Requested, Pass, PassArray, Do, Passing, Item, Value, PlaceOf, Fill, Perform, Going, Source}, World.{World, Given, Single, Characters, characters_at, array_at, given_by, serve}, Steps.{trapped, with_items, character_of, characters_from, as_array, given_of, level_of}}
 use Rattle.lil_mcode.specs.Table.{State, going, array_lies, request_row}
@@ -17,11 +17,11 @@ use Rattle.lil_laws_stmt.specs.{Strings.{string_low, string_word}, Tasks.value_w
 
 -- ---- which arguments are arrays
 -- one of those that are left is at hand
-forms_more : (ts : Scope) (r : Request) (done : List Bool) (x : Argument) (left : List Argument) → TakesAll ts r done (x ∷ left) → TakesAll ts r (done ++ is_open (parameter_of ts x) ∷ []) left
+forms_more : (ts : Scope) (r : Request) (done : List Bool) (x : Argument) (left : Arguments) → TakesAll ts r done (Also x left) → TakesAll ts r (done ++ is_open (parameter_of ts x) ∷ []) left
 forms_more ts r done x left t =
-    record { same = t.same ∙ sym (append_assoc done (is_open (parameter_of ts x) ∷ []) (map is_open (map (parameter_of ts) left))); taken = t.taken.1; served = t.served.1 }
+    record { same = t.same ∙ sym (append_assoc done (is_open (parameter_of ts x) ∷ []) (map is_open (parameters_given ts left))); taken = t.taken.1; served = t.served.1 }
 
-forms_done : (ts : Scope) (r : Request) (done : List Datum) (d : Datum) (left : List Argument) → TakesAll ts r (map is_array done ++ is_array d ∷ []) left → TakesAll ts r (map is_array (done ++ d ∷ [])) left
+forms_done : (ts : Scope) (r : Request) (done : List Datum) (d : Datum) (left : Arguments) → TakesAll ts r (map is_array done ++ is_array d ∷ []) left → TakesAll ts r (map is_array (done ++ d ∷ [])) left
 forms_done ts r done d left t = subst (λ (bs : List Bool). TakesAll ts r bs left) (sym (map-append is_array done (d ∷ []))) t
 
 -- WriteString takes one array, and no other request takes any
@@ -94,7 +94,7 @@ module _ (ctx : Setting) where
   data_more (x ∷ ds) d below old new r e = (r.0, r.1, data_more ds d r.0 old new r.2 e)
 
   -- the first of those that are left is at hand, and is done
-  abbrev left_more : (r : Request) (done : List Bool) (x : Argument) (left : List Argument) (count p : ℕ) (y : LeftPart ctx.stack.frame r done (x ∷ left) count p)
+  abbrev left_more : (r : Request) (done : List Bool) (x : Argument) (left : Arguments) (count p : ℕ) (y : LeftPart ctx.stack.frame r done (Also x left) count p)
       → LeftPart ctx.stack.frame r (done ++ is_open (parameter_of l.scope x) ∷ []) left (argument_words x + count) y.given.middle
   left_more r done x left count p y = record {
     middle = y.middle;
@@ -103,7 +103,7 @@ module _ (ctx : Setting) where
     serve = record { words = y.serve.words ∙ (let e : count + (argument_words x + arguments_words left) ≡ argument_words x + count + arguments_words left = omega arith in e); end = y.serve.end; by = y.serve.by; within = y.serve.within };
   }
 
-  abbrev left_done : (r : Request) (done : List Datum) (d : Datum) (left : List Argument) (count more p : ℕ) → count ≡ more → LeftPart ctx.stack.frame r (map is_array done ++ is_array d ∷ []) left count p
+  abbrev left_done : (r : Request) (done : List Datum) (d : Datum) (left : Arguments) (count more p : ℕ) → count ≡ more → LeftPart ctx.stack.frame r (map is_array done ++ is_array d ∷ []) left count p
       → LeftPart ctx.stack.frame r (map is_array (done ++ d ∷ [])) left more p
   left_done r done d left count more p e y = record {
     middle = y.middle;
@@ -186,7 +186,7 @@ module _ (ctx : Setting) where
     other_lies r (high ∷ []) e = refl
     other_lies r (high ∷ address ∷ rest) e = no (takes_array r) _ _ e
 
-    all_given : (r : Request) (done : List Datum) → DataOn ctx done m.stack [] → TakesAll l.scope r (map is_array done) [] → IsGiven r done
+    all_given : (r : Request) (done : List Datum) → DataOn ctx done m.stack [] → TakesAll l.scope r (map is_array done) NoMore → IsGiven r done
     all_given r done on forms = by (takes_array r) refl
       where
         are : map is_open (request_parameters r) ≡ map is_array done
@@ -212,7 +212,7 @@ module _ (ctx : Setting) where
     abbrev Rest : Reach
     Rest = Rows ctx k
 
-    pub request_goes : (r : Request) (given : List Argument) → Waiting ctx (Perform (Do (resolved.Request r given))) Rest Quiet m.place m.stack c a
+    pub request_goes : (r : Request) (given : Arguments) → Waiting ctx (Perform (Do (resolved.Request r given))) Rest Quiet m.place m.stack c a
         → Goes ctx s (Perform (Do (resolved.Request r given)) ∷ k) m (c + 32)
     request_goes r given row =
         let none : length m.stack ≡ 0 = ap length row.part.empty in
@@ -234,15 +234,15 @@ module _ (ctx : Setting) where
         (omega arith)
 
     -- behind an argument of so many words
-    abbrev Passed : Request → List Datum → Argument → List Argument → Type 0
-    Passed r done x left = Waiting ctx (Perform (Passing (Requested r) done (x ∷ left))) Rest Quiet m.place m.stack c a
+    abbrev Passed : Request → List Datum → Argument → Arguments → Type 0
+    Passed r done x left = Waiting ctx (Perform (Passing (Requested r) done (Also x left))) Rest Quiet m.place m.stack c a
 
-    pub passing_goes : (r : Request) (done : List Datum) (x : Argument) (left : List Argument) → Passed r done x left → Goes ctx s (Perform (Passing (Requested r) done (x ∷ left)) ∷ k) m (c + 32)
+    pub passing_goes : (r : Request) (done : List Datum) (x : Argument) (left : Arguments) → Passed r done x left → Goes ctx s (Perform (Passing (Requested r) done (Also x left)) ∷ k) m (c + 32)
     passing_goes r done (ByValue kind e) left row =
         let rest = row.part.rest in
         let value = rest.given.here in
         let behind = arguments_within l piece (1 + length m.stack) left rest.given.middle rest.middle rest.given.then (instr_within piece rest.middle (Svc (request_number r)) rest.serve.end rest.serve.by) in
-        operand_goes ctx s k m c a shared (Perform (Passing (Requested r) done (ByValue kind e ∷ left)) ∷ k) e (Pass (Requested r) kind done left) refl (omega arith) value.middle value.value.value
+        operand_goes ctx s k m c a shared (Perform (Passing (Requested r) done (Also (ByValue kind e) left)) ∷ k) e (Pass (Requested r) kind done left) refl (omega arith) value.middle value.value.value
         value.value.shallow
         (value_within ctx (length m.stack) e kind m.place rest.given.middle value behind)
         (record {
@@ -260,7 +260,7 @@ module _ (ctx : Setting) where
     passing_goes r done (OfArray d high) left row =
         let rest = row.part.rest in
         let y = rest.given.here in
-        goes_none ctx s (Perform (Passing (Requested r) done (OfArray d high ∷ left)) ∷ k) m 32 c
+        goes_none ctx s (Perform (Passing (Requested r) done (Also (OfArray d high) left)) ∷ k) m 32 c
         (lands_on ctx s m shared (PlaceOf d ∷ Fill (PassArray (Requested r) high done left) ∷ k) m.place m.stack c a
         (at_once ctx _ Quiet m.place m.stack c a
         (record {
@@ -288,7 +288,7 @@ module _ (ctx : Setting) where
         let stack : List ℕ = (text_words cs - 1) ∷ from ∷ m.stack in
         let low = string_low ctx s m shared cs y.offset y.text in
         let after : List Item = Perform (Passing (Requested r) (done ++ Texts cs ∷ []) left) ∷ k in
-        let items : List Item = Perform (Passing (Requested r) done (OfText cs ∷ left)) ∷ k in
+        let items : List Item = Perform (Passing (Requested r) done (Also (OfText cs) left)) ∷ k in
         let here : State = going m rest.given.middle stack in
         let count : 2 + length m.stack ≡ length stack = omega arith in
         leads ctx s items m shared (Lag y.offset) m.place y.start m.stack (from ∷ m.stack) (c + 32) (c + 1) y.address
@@ -311,7 +311,7 @@ module _ (ctx : Setting) where
         (omega arith)
 
     -- an array is there: its address, and the number of its last element
-    pub pass_array_goes : (r : Request) (high : ℕ) (done : List Datum) (left : List Argument) (place : Place) (d : Designator) (below : List ℕ) → Designates ctx d place m.stack below
+    pub pass_array_goes : (r : Request) (high : ℕ) (done : List Datum) (left : Arguments) (place : Place) (d : Designator) (below : List ℕ) → Designates ctx d place m.stack below
         → Waiting ctx (Fill (PassArray (Requested r) high done left)) Rest (AtPlace d) m.place below c a → Goes ctx s (Value (Places place) ∷ Fill (PassArray (Requested r) high done left) ∷ k) m (c + 32)
     pass_array_goes r high done left place d below has row =
         let y = row.part in
@@ -338,7 +338,7 @@ module _ (ctx : Setting) where
         (omega arith))
         (omega arith)
 
-    pub pass_goes : (r : Request) (to : Kind) (done : List Datum) (left : List Argument) (v : Scalar) (kind : Kind) → within kind v ≡ true → (below : List ℕ) → m.stack ≡ word_for h v ∷ below
+    pub pass_goes : (r : Request) (to : Kind) (done : List Datum) (left : Arguments) (v : Scalar) (kind : Kind) → within kind v ≡ true → (below : List ℕ) → m.stack ≡ word_for h v ∷ below
         → Waiting ctx (Fill (Pass (Requested r) to done left)) Rest (ValueOf kind) m.place below c a → Goes ctx s (Value (Scalars v) ∷ Fill (Pass (Requested r) to done left) ∷ k) m (c + 32)
     pass_goes r to done left v kind fit below is row =
         let items : List Item = Value (Scalars v) ∷ Fill (Pass (Requested r) to done left) ∷ k in
@@ -367,8 +367,8 @@ module _ (ctx : Setting) where
         (subst (λ (t : Source). stutter t.items < stutter items) (sym (ap becomes one)) falls))
         (omega arith)
 
-    pub serve_goes : (r : Request) (done : List Datum) → Waiting ctx (Perform (Passing (Requested r) done [])) Rest Quiet m.place m.stack c a
-        → Goes ctx s (Perform (Passing (Requested r) done []) ∷ k) m (c + 32)
+    pub serve_goes : (r : Request) (done : List Datum) → Waiting ctx (Perform (Passing (Requested r) done NoMore)) Rest Quiet m.place m.stack c a
+        → Goes ctx s (Perform (Passing (Requested r) done NoMore) ∷ k) m (c + 32)
     serve_goes r done row =
         let count : ℕ = request_words r in
         let all : count ≡ length m.stack = omega (arith, row.part.rest.serve.words) in
@@ -381,7 +381,7 @@ module _ (ctx : Setting) where
         let machine : State = record m { place = row.part.rest.serve.end; stack = [] } in
         let w : World = (serve (level_of s) r (map (given_of s.cells) done) s.world).0 in
         let at : List ℕ → List Given → Run = λ x given. record { machine = record m { place = row.part.rest.serve.end; stack = x }; world = (serve (level_of s) r given s.world).0; finish = Running } in
-        goes_one ctx s (Perform (Passing (Requested r) done []) ∷ k) m 31 c (running machine w)
+        goes_one ctx s (Perform (Passing (Requested r) done NoMore) ∷ k) m 31 c (running machine w)
         (advances m s.world _ (
         at_step ctx m shared.program (Svc (request_number r)) row.part.rest.serve.end by
         ∙ ap (request_row row.part.rest.serve.end m) (request_found r)

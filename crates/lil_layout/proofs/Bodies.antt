@@ -1,16 +1,18 @@
 -- How many words the strings of each form of statement take, as sums over its lists.
 use Rattle.std.proofs.Common.{◌≡◌, ℕ, ◌+◌, List, [], ◌∷◌, ◌++◌, length, map, Option, Some, None, refl, ap, ◌∙◌, arith, length-append}
 use Rattle.std.specs.List.{sum_by}
-use Rattle.std.proofs.lemmas.List.{Concat.length-flat_map, Folds.flat_map-map, Sums.sum_by-cons}
-use Rattle.lil_resolved.specs.{declared.resolved.{RArgument.RArgument, RArm.RArm, RGuard.RGuard, RExpr.RExpr, RStmt.RStmt}, Views.{request_is, call_is, if_is, case_is, guard_is, arm_is, argument_of, statement_of, statements_of, guard_of, arm_of, joined, guarded, armed, arms_of, else_of}, Resolved.{Statements, Empty, Then, Arms}}
+use Rattle.std.proofs.lemmas.List.Sums.{sum_by-cons}
+use Rattle.lil_resolved.specs.{declared.resolved.{RArgument.RArgument, RArm.RArm, RGuard.RGuard, RExpr.RExpr, RStmt.RStmt}, Views.{request_is, if_is, case_is, guard_is, arm_is, argument_of, arguments_of, statement_of, statements_of, guard_of, arm_of, joined, guarded, armed, arms_of, else_of}, Resolved.{Statements, Empty, Then, Arms}}
 use Rattle.lil_resolved.specs.Sizes.{argument_strings, arguments_strings, statement_strings, body_strings, arms_strings}
 use Rattle.lil_base.specs.declared.request.Request as request
 use Rattle.lil_resolved.specs.declared.resolved.RStmt.TheVariants as v
 use Rattle.lil_layout.specs.{Data.text_words, Strings.{argument_words, statement_words, body_words, guard_words, arm_words}}
 
 -- ---- arguments
-given_words : (given : List RArgument) → length (arguments_strings (map argument_of given)) ≡ sum_by argument_words given
-given_words given = ap length (flat_map-map argument_strings argument_of given) ∙ length-flat_map (λ a. argument_strings (argument_of a)) given
+given_words : (given : List RArgument) → length (arguments_strings (arguments_of given)) ≡ sum_by argument_words given
+given_words [] = refl
+given_words (a ∷ given) =
+    omega (arith, length-append (argument_strings (argument_of a)) (arguments_strings (arguments_of given)), given_words given, sum_by-cons argument_words a given)
 
 -- ---- statements behind statements
 joined_words : (ss more : Statements) → length (body_strings (joined ss more)) ≡ length (body_strings ss) + length (body_strings more)
@@ -26,10 +28,7 @@ alone : (xs : List ℕ) → length (xs ++ []) ≡ length xs
 alone xs = omega (arith, length-append xs [])
 
 pub request_words : (r : request.Request) (given : List RArgument) → statement_words (v.Request r given) ≡ sum_by argument_words given
-request_words r given = ap (λ ss. length (body_strings ss)) (request_is r given) ∙ alone (arguments_strings (map argument_of given)) ∙ given_words given
-
-pub call_words : (p n : ℕ) (given : List RArgument) → statement_words (v.Call p n given) ≡ sum_by argument_words given
-call_words p n given = ap (λ ss. length (body_strings ss)) (call_is p n given) ∙ alone (arguments_strings (map argument_of given)) ∙ given_words given
+request_words r given = ap (λ ss. length (body_strings ss)) (request_is r given) ∙ alone (arguments_strings (arguments_of given)) ∙ given_words given
 
 -- ---- guards
 guard_before : (g : RGuard) (other : Statements) → length (body_strings (guard_of g other)) ≡ guard_words g + length (body_strings other)

@@ -42,7 +42,7 @@ fn arguments_words(of: &[RArgument]) -> u32
 
 /// The words of the strings in a statement.
 #[cycle(statement)]
-#[tactic(auto, using(crate::proofs::Bodies::request_words, crate::proofs::Bodies::call_words, crate::proofs::Bodies::if_words, crate::proofs::Bodies::case_words))]
+#[tactic(auto, using(crate::proofs::Bodies::request_words, crate::proofs::Bodies::if_words, crate::proofs::Bodies::case_words))]
 fn statement_words(of: &RStmt) -> u32
     ensures { result ≡ min (spec.statement_words of.now) 4294967295 }
 {
@@ -55,10 +55,11 @@ fn statement_words(of: &RStmt) -> u32
         | RStmt::Allocate(_, _, _)
         | RStmt::Exit
         | RStmt::Halt
-        | RStmt::Return => 0,
+        | RStmt::Return
+        | RStmt::Answer(_, _)
+        | RStmt::Call(_, _, _) => 0,
         RStmt::Text(_, text) => string_words(text.get()),
         RStmt::Request(_, arguments) => arguments_words(arguments.as_slice()),
-        RStmt::Call(_, _, arguments) => arguments_words(arguments.as_slice()),
         RStmt::If(guards, otherwise) => {
             let guarded = guards_words(guards.as_slice());
             guarded.saturating_add(body_words(otherwise.as_slice()))

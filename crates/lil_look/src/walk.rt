@@ -29,27 +29,31 @@ enum Ending {
     Kept,
 }
 
-fn is_last(ending: Ending, instr: Instr) -> bool {
+/// Whether a part ends with an instruction, which has this one after it. A call that RST follows is of a function, whose
+/// value goes on.
+fn is_last(ending: Ending, instr: Instr, after: Option<Step>) -> bool {
     match ending {
         Ending::Only => true,
         Ending::Test => matches!(instr, Instr::Jpf(_)),
         Ending::Turns => matches!(instr, Instr::Fri(_, _, _)),
         Ending::Kept => matches!(instr, Instr::Slw(_)),
-        Ending::Effect => matches!(
-            instr,
-            Instr::Sgw(_)
-                | Instr::Sti
-                | Instr::Mov(_)
-                | Instr::Mvz(_, _)
-                | Instr::Icl
-                | Instr::Ecl
-                | Instr::Alc
-                | Instr::Svc(_)
-                | Instr::Cll(_, _)
-                | Instr::Jmp(_)
-                | Instr::Rtn
-                | Instr::Trp(_)
-        ),
+        Ending::Effect => match instr {
+            Instr::Cll(_, _) => !matches!(after, Some(step) if matches!(step.instr, Instr::Rst(_))),
+            _ => matches!(
+                instr,
+                Instr::Sgw(_)
+                    | Instr::Sti
+                    | Instr::Mov(_)
+                    | Instr::Mvz(_, _)
+                    | Instr::Icl
+                    | Instr::Ecl
+                    | Instr::Alc
+                    | Instr::Svc(_)
+                    | Instr::Jmp(_)
+                    | Instr::Rtn
+                    | Instr::Trp(_)
+            ),
+        },
     }
 }
 
@@ -92,7 +96,7 @@ fn show_part(walk: &mut Walk<'_>, word: &str, at: Place, ending: Ending) -> Resu
             return Ok(());
         };
         show_step(walk, step, at.line, part.as_str())?;
-        if is_last(ending, step.instr) {
+        if is_last(ending, step.instr, step_at(walk.code, step.next)) {
             return Ok(());
         }
         part.clear();

@@ -3,14 +3,14 @@ use Rattle.lil_resolved.specs.Kinds.{all_words}
 use Rattle.lil_table.specs.Rows.{given_words}
 use Rattle.std.proofs.Common.{◌≡◌, ℕ, ◌+◌, ◌≤◌, ⊎_elim, List, [], ◌∷◌, length, Option, sym, ap, ◌∙◌, subst, arith}
 use Rattle.std.specs.Prelude.{slice_get}
-use Rattle.lil_resolved.specs.{Kinds.Shape, Resolved.{Argument, Resolved}}
+use Rattle.lil_resolved.specs.{Kinds.Shape, Resolved.{Argument, Arguments, NoMore, Also, Resolved}}
 use Rattle.lil_meaning.specs.{Items.{loaded_at, Datum, Called, Pass, PassPlace, PassAll, Turns, Holding, End, Item, Fill, Perform, Activation, Source}, Need.{frame_of, cost, unless_body, with_callers, chain}, Steps.{current, owner_of, procedure_of}}
 use Rattle.lil_mcode.specs.Table.{Module, State}
-use Rattle.lil_match.specs.{Homes.{Owner, Home}, Waits.{Mode, Quiet, Around, Frame, Setting, with_frames, Pending, Behind, RowsOf, Rows}, Goes.{Stands, IsKnown, EachKnown, Shared}, Steps.closed}
+use Rattle.lil_match.specs.{Homes.{Owner, Home}, Waits.{Mode, Quiet, Around, Frame, Setting, with_frames, Pending, Resumed, AStatement, AValue, AreSaved, saved_words, Behind, RowsOf, Rows}, Goes.{Stands, IsKnown, EachKnown, Shared}, Steps.closed}
 
 abbrev pub cost_of : List Frame → ℕ
 cost_of [] = 0
-cost_of (f ∷ fs) = (f.layout.frame + (f.pushed + 17)) + cost_of fs
+cost_of (f ∷ fs) = (f.layout.frame + f.pushed) + cost_of fs
 
 -- the activation of a frame takes what the frame does
 pub record Costs (library : List Resolved) (loaded : List ℕ) (acts : List Activation) (f : Frame) : Type 0 where
@@ -40,21 +40,26 @@ each_costs library loaded table acts h [] e = tt
 each_costs library loaded table acts h (f ∷ fs) e = (known_costs library loaded table acts h f e.0, each_costs library loaded table acts h fs e.1)
 
 -- during a call's arguments, what is pushed and what is to be takes no more than the call
-pub pending_cost : (ctx : Setting) (k : List Item) (q levels : ℕ) (done : List Datum) (next : List Shape) (left : List Argument) (p c : ℕ) (a : Around) → Pending ctx q levels done next left (RowsOf k) p c a
+pub pending_cost : (ctx : Setting) (k : List Item) (q levels : ℕ) (done : List Datum) (next : List Shape) (left : Arguments) (p c : ℕ) (a : Around) → Pending ctx q levels done next left (RowsOf k) p c a
     → EachCosts ctx.library ctx.loaded ctx.activations (ctx.stack.frame ∷ ctx.stack.callers)
-    → ((y : Setting) (p c : ℕ) (a : Around) → Rows y k Quiet p [] c a → EachCosts y.library y.loaded y.activations (y.stack.frame ∷ y.stack.callers) → cost_of (y.stack.frame ∷ y.stack.callers) ≤ chain y.library y.loaded y.activations k)
+    → ((y : Setting) (t : Mode) (p : ℕ) (stack : List ℕ) (c : ℕ) (a : Around) → Rows y k t p stack c a → EachCosts y.library y.loaded y.activations (y.stack.frame ∷ y.stack.callers) → cost_of (y.stack.frame ∷ y.stack.callers) ≤ chain y.library y.loaded y.activations k)
     → cost_of (ctx.stack.frame ∷ ctx.stack.callers) + (all_words next + given_words ctx.stack.frame.layout.scope left) ≤ (frame_of (loaded_at ctx.library ctx.loaded (owner_of (slice_get ctx.activations (current k)))) q + 17) + chain ctx.library ctx.loaded ctx.activations k
 pending_cost ctx k q levels done next left p c a w e rest =
     let inner = subst (λ (y : Setting). EachCosts y.library y.loaded y.activations (y.stack.frame ∷ y.stack.callers)) w.is e in
-    let below = rest w.before w.end c w.outer w.then (record { takes = inner.0.takes; rest = inner.0.rest; owner = inner.0.owner }, inner.1) in
+    let below = rest w.before _ w.after _ c w.outer w.then (record { takes = inner.0.takes; rest = inner.0.rest; owner = inner.0.owner }, inner.1) in
     let chain_is : chain ctx.library ctx.loaded ctx.activations k ≡ chain w.before.library w.before.loaded w.before.activations k = ap (λ (y : Setting). chain y.library y.loaded y.activations k) w.is in
-    let cost_is : cost_of (ctx.stack.frame ∷ ctx.stack.callers) ≡ (4 + all_words w.shapes) + cost_of (w.before.stack.frame ∷ w.before.stack.callers) =
+    let cost_is : cost_of (ctx.stack.frame ∷ ctx.stack.callers) ≡ (saved_words w.resumed + (4 + all_words w.shapes)) + cost_of (w.before.stack.frame ∷ w.before.stack.callers) =
     ap (λ (y : Setting). cost_of (y.stack.frame ∷ y.stack.callers)) w.is
-    ∙ (let e : (w.before.stack.frame.layout.frame + (((4 + all_words w.shapes) + w.before.stack.frame.pushed) + 17)) + cost_of w.before.stack.callers ≡ (4 + all_words w.shapes) + ((w.before.stack.frame.layout.frame + (w.before.stack.frame.pushed + 17)) + cost_of w.before.stack.callers) = omega arith in e) in
-    let same : current k ≡ ctx.stack.frame.activation = closed w.before k Quiet w.end [] c w.outer w.then ∙ sym (ap (λ (y : Setting). y.stack.frame.activation) w.is) in
+    ∙ (let e : (w.before.stack.frame.layout.frame + ((saved_words w.resumed + (4 + all_words w.shapes)) + w.before.stack.frame.pushed)) + cost_of w.before.stack.callers ≡ (saved_words w.resumed + (4 + all_words w.shapes)) + ((w.before.stack.frame.layout.frame + w.before.stack.frame.pushed) + cost_of w.before.stack.callers) = omega arith in e) in
+    let same : current k ≡ ctx.stack.frame.activation = closed w.before k _ w.after _ c w.outer w.then ∙ sym (ap (λ (y : Setting). y.stack.frame.activation) w.is) in
     let number : owner_of (slice_get ctx.activations (current k)) ≡ ctx.stack.frame.number = ap (λ (i : ℕ). owner_of (slice_get ctx.activations i)) same ∙ e.0.owner in
     let frame : frame_of (loaded_at ctx.library ctx.loaded (owner_of (slice_get ctx.activations (current k)))) q ≡ frame_of (loaded_at ctx.library ctx.loaded ctx.stack.frame.number) q = ap (λ (i : ℕ). frame_of (loaded_at ctx.library ctx.loaded i) q) number in
     omega (arith, below, chain_is, cost_is, frame, w.room)
+
+-- a whole expression stack and its length
+pub saved_low : (shadow : ℕ → ℕ) (r : Resumed) (at : ℕ) → AreSaved shadow r at → saved_words r ≤ 17
+saved_low shadow AStatement at h = omega arith
+saved_low shadow (AValue k saved) at h = omega (arith, h.0)
 
 -- the calls of items that have rows take what the frames do
 pub items_cost : (ctx : Setting) (k : List Item) (t : Mode) (p : ℕ) (stack : List ℕ) (c : ℕ) (a : Around) → Rows ctx k t p stack c a
@@ -74,22 +79,22 @@ items_cost ctx (Perform (End n) ∷ k) t p stack c a r e =
     let same : chain ctx.library ctx.loaded ctx.activations (Perform (End n) ∷ k) ≡ (ctx.stack.frame.layout.frame + 17) + with_callers (slice_get ctx.activations ctx.stack.frame.activation) (chain ctx.library ctx.loaded ctx.activations k) =
     ap (λ (i : ℕ). cost ctx.library ctx.loaded (slice_get ctx.activations i) + with_callers (slice_get ctx.activations i) (chain ctx.library ctx.loaded ctx.activations k)) r.there.activation
     ∙ ap (λ (n : ℕ). n + with_callers (slice_get ctx.activations ctx.stack.frame.activation) (chain ctx.library ctx.loaded ctx.activations k)) e.0.takes in
-    omega (arith, same, r.there.idle, by ctx.stack.callers ctx.stack.bodies e.1 r.there.behind (λ g gs bs p a back rest. items_cost (with_frames ctx g gs bs) k Quiet p [] r.later a back rest))
+    omega (arith, same, r.there.idle, by ctx.stack.callers ctx.stack.bodies e.1 r.there.behind (λ g gs bs t p stack a back rest. items_cost (with_frames ctx g gs bs) k t p stack r.later a back rest))
   where
     by : (gs bs : List Frame) → EachCosts ctx.library ctx.loaded ctx.activations gs → Behind ctx k (RowsOf k) r.later gs bs
-        → ((g : Frame) (gs bs : List Frame) (p : ℕ) (a : Around) → Rows (with_frames ctx g gs bs) k Quiet p [] r.later a → EachCosts ctx.library ctx.loaded ctx.activations (g ∷ gs) → cost_of (g ∷ gs) ≤ chain ctx.library ctx.loaded ctx.activations k)
-        → cost_of gs ≤ with_callers (slice_get ctx.activations ctx.stack.frame.activation) (chain ctx.library ctx.loaded ctx.activations k)
+        → ((g : Frame) (gs bs : List Frame) (t : Mode) (p : ℕ) (stack : List ℕ) (a : Around) → Rows (with_frames ctx g gs bs) k t p stack r.later a → EachCosts ctx.library ctx.loaded ctx.activations (g ∷ gs) → cost_of (g ∷ gs) ≤ chain ctx.library ctx.loaded ctx.activations k)
+        → cost_of gs ≤ 17 + with_callers (slice_get ctx.activations ctx.stack.frame.activation) (chain ctx.library ctx.loaded ctx.activations k)
     by (g ∷ gs) bs each back under =
-        omega (arith, e.0.rest (chain ctx.library ctx.loaded ctx.activations k) ∙ ap (λ (p : ℕ). unless_body p (chain ctx.library ctx.loaded ctx.activations k)) back.called, under g gs bs _ _ back.then each)
+        omega (arith, e.0.rest (chain ctx.library ctx.loaded ctx.activations k) ∙ ap (λ (p : ℕ). unless_body p (chain ctx.library ctx.loaded ctx.activations k)) back.called, back.pushed_is, saved_low ctx.home.shadow back.resumed _ back.saved, under (record g { pushed = back.under_saved }) gs bs _ _ _ _ back.then (record { takes = each.0.takes; rest = each.0.rest; owner = each.0.owner }, each.1))
     by [] bs each back under = omega arith
 items_cost ctx (Fill (Pass (Called q levels) kind done left) ∷ k) t p stack c a r e =
-    let all = pending_cost ctx k q levels done _ left _ _ a r.there.pending e (λ y p c a. items_cost y k Quiet p [] c a) in
+    let all = pending_cost ctx k q levels done _ left _ _ a r.there.pending e (λ y t p stack c a. items_cost y k t p stack c a) in
     omega (arith, all)
 items_cost ctx (Fill (PassPlace (Called q levels) done left) ∷ k) t p stack c a r e =
-    let all = pending_cost ctx k q levels done _ left _ _ a r.there.pending e (λ y p c a. items_cost y k Quiet p [] c a) in
+    let all = pending_cost ctx k q levels done _ left _ _ a r.there.pending e (λ y t p stack c a. items_cost y k t p stack c a) in
     omega (arith, all)
 items_cost ctx (Fill (PassAll (Called q levels) done left) ∷ k) t p stack c a r e =
-    let all = pending_cost ctx k q levels done _ left _ _ a r.there.pending e (λ y p c a. items_cost y k Quiet p [] c a) in
+    let all = pending_cost ctx k q levels done _ left _ _ a r.there.pending e (λ y t p stack c a. items_cost y k t p stack c a) in
     omega (arith, all)
 items_cost ctx (i ∷ k) t p stack c a r e =
     let rest = items_cost ctx k _ _ _ _ _ r.there.then e in

@@ -4,8 +4,8 @@ use Rattle.std.proofs.Common.{◌≡◌, ℕ, ◌+◌, ◌<◌, ◌≤◌, ◌�
 use Rattle.std.specs.{Prelude.slice_get, List.list_any}
 use Rattle.lil_base.specs.declared.fault.{LimitKind.LimitKind, TrapAt.TrapAt}
 use Rattle.lil_base.specs.declared.fault.LimitKind.TheVariants as limit
-use Rattle.lil_resolved.specs.{Resolved.{Procedure, Resolved, procedure_by, outline_of}, Sizes.frame_words, Kinds.{Shape, Absent, Address, is_there, shape_at, offsets_from}}
-use Rattle.lil_meaning.specs.{Items.{Root, Global, Local, Object, Place, Here, At, Cells, targets_of, loaded_at, Item, Activation, Workspace, Parked, Level, Phase, Going, Closing, Ended, Trapped, Source, heap_words}, World.{World, all_closed}, Need.{frame_of, chain_of, HasCalls}, Steps.{next, owner_of, procedure_of, procedures_of, surrounding, name_of, procedure_name}}
+use Rattle.lil_resolved.specs.{Resolved.{Procedure, Resolved, procedure_by, outline_of}, Sizes.frame_words, Kinds.{result_here, Shape, Absent, Address, is_there, shape_at, offsets_from}}
+use Rattle.lil_meaning.specs.{Items.{Root, Global, Local, Object, Place, Here, At, Cells, targets_of, loaded_at, Item, Activation, Workspace, Parked, Level, Phase, Going, Closing, Ended, Trapped, Source, heap_words}, World.{World, all_closed}, Need.{frame_of, chain_of, HasCalls}, Steps.{next, owner_of, procedure_of, result_by, procedures_of, surrounding, name_of, procedure_name}}
 use Rattle.lil_mcode.specs.Table.{Module, StackRegisters, Kept, State, stack_of, module_at}
 use Rattle.lil_asm.specs.Stretches.{stretch}
 use Rattle.lil_table.specs.Rows.{Layout, FramedRow, exactly}
@@ -94,7 +94,7 @@ pub record Entered (own : Module) (l : Layout) (p : ℕ) (its : Procedure) : Typ
   pub after : ℕ
   pub within : after ≤ length own.code
   pub apart : IsApart own.procedures p entry after
-  pub code : FramedRow (record inner { target = exactly }) (stretch entry after own.code) its.locals its.body entry after
+  pub code : FramedRow (record inner { target = exactly }) (stretch entry after own.code) its.result its.locals its.body entry after
 
 abbrev pub HasCodes : Module → List Procedure → Layout → Type 0
 HasCodes own ps l = (p : ℕ) (its : Procedure) → procedure_by ps p ≡ Some its → Entered own l p its
@@ -144,6 +144,7 @@ module _ (library : List Resolved) (loaded : List ℕ) (table : List Module) (ac
     pub entered : IsNamed f (procedure_name (loaded_at library loaded f.number) f.procedure)
     pub piece : IsPiece f
     pub size : f.layout.frame ≡ frame_of (loaded_at library loaded f.number) f.procedure
+    pub returns : result_here f.layout.scope ≡ result_by (loaded_at library loaded f.number) f.procedure
     pub procedures : f.layout.scope.procedures ≡ map outline_of (procedures_of (loaded_at library loaded f.number))
     pub codes : HasCodes f.own (procedures_of (loaded_at library loaded f.number)) f.layout
     pub variables : (x offset : ℕ) (t : Shape) → slice_get f.layout.offsets x ≡ Some offset → slice_get f.layout.scope.variables x ≡ Some t

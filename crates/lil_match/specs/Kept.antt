@@ -5,13 +5,13 @@ use Rattle.lil_match.specs.Homes.{IsWord}
 use Rattle.std.proofs.Common.{◌≡◌, ℕ, zero, suc, length, ◌+◌, ◌<◌, ◌≤◌, inl, inr, true, eqb, List, [], ◌∷◌, ◌++◌, set, get_or, refl, sym, ap, ◌∙◌, subst, ⊎_elim, arith}
 use Rattle.std.proofs.lemmas.{Bool.{ne_eqb}, Option.{none-some, same_Some}}
 use Rattle.std.specs.Prelude.{Option, Some, None, slice_get}
-use Rattle.lil_resolved.specs.{Kinds.{Workspaces, Kind, OfCharacter, OfSet, OfPointer, Scalar, within, Shape, Absent, Word, Row, Address, Opened, words as size, is_there, part_at, offset, all_words, offsets_from}, Resolved.{Resolved, Argument, kind_of, shape_of}, Plain.parameter_variable}
-use Rattle.lil_meaning.specs.Items.{Root, Global, Local, Object, Place, Datum, Scalars, Places, Wholes, Opens, Texts, Requested, Called, IndexAt, StoreAt, CopyFrom, ChangeAt, RightOf, MemberOf, MembersFrom, MembersTo, MemberAt, AllocateAt, Pass, PassPlace, PassAll, PassArray, LimitOf, Passing, Looping, Turns, Holding, End, Item, Value, Fill, Perform, Activation, Source}
+use Rattle.lil_resolved.specs.{Kinds.{Workspaces, Kind, OfCharacter, OfSet, OfPointer, Scalar, within, Shape, Absent, Word, Row, Address, Opened, words as size, is_there, part_at, offset, all_words, offsets_from}, Resolved.{Resolved, Argument, Arguments, NoMore, Also, kind_of, shape_of}, Plain.parameter_variable}
+use Rattle.lil_meaning.specs.Items.{Root, Global, Local, Object, Place, Datum, Scalars, Places, Wholes, Opens, Texts, Requested, Called, IndexAt, StoreAt, CopyFrom, ChangeAt, RightOf, MemberOf, MembersFrom, MembersTo, MemberAt, AllocateAt, Pass, PassPlace, PassAll, PassArray, Returning, LimitOf, Passing, Looping, Turns, Holding, End, Item, Value, Fill, Perform, Activation, Source}
 use Rattle.lil_meaning.specs.Steps.{outer_of, surrounding}
 use Rattle.lil_mcode.specs.Table.{Module, StackRegisters, State, stack_of}
 use Rattle.lil_table.specs.Rows.{Layout, holding, Access, OnTop, loop_place}
 use Rattle.lil_match.specs.{Parts.no, Homes.{word_for, word_kept, refers_kept, is_word_kept, Refers, plain_refers, takes_plain, Extends, extends_self, lives, address, shape_there, Owner, Own, Fixed, own_fixed, Home, mem_shadowed, shadowed, replaced}}
-use Rattle.lil_match.specs.{Waits.{Mode, Quiet, ValueOf, AtPlace, Reach, AfterJumps, Onward, Part, Around, Frame, own_words, locals_in, top_of, outside, frames_of, Setting, at_home, renewed, inside_with, pushing, with_frames, DatumOn, DataOn, IsLink, GivenAll, GivenWords, AllGiven, Pending, sees, TurnsTask, Reaches, HasPlace, HasSet, needs, Behind, RowsOf, Rows}, Known.{known_kept, each_known, each_comes, sees_more, each_local}}
+use Rattle.lil_match.specs.{Waits.{Mode, Quiet, ValueOf, AtPlace, Reach, AfterJumps, Onward, Part, Around, Frame, own_words, locals_in, top_of, outside, frames_of, Setting, at_home, renewed, inside_with, pushing, with_frames, DatumOn, DataOn, IsLink, GivenAll, GivenWords, AllGiven, Pending, Resumed, AStatement, AValue, AreSaved, saved_words, sees, TurnsTask, Reaches, HasPlace, HasSet, needs, Behind, RowsOf, Rows}, Known.{known_kept, each_known, each_comes, sees_more, each_local}}
 use Rattle.lil_match.specs.Goes.{OwnWords, Stands, Grows, Linked, Chained, HasHanded, EachHanded, EachComes, Standing, Shared, Touches}
 
 -- the words that pending calls have put above the running frame stay
@@ -234,6 +234,17 @@ keeps_before ctx before x more low top is keeps =
       workspaces = inner.workspaces;
     }
 
+-- and where fewer words are pushed
+pub keeps_fewer : (h x : Home) (f : Frame) (n : ℕ) (fs : List Frame) (low top : ℕ) → n ≤ f.pushed → Keeps h x (f ∷ fs) low top → Keeps h x (record f { pushed = n } ∷ fs) low top
+keeps_fewer h x f n fs low top fewer keeps = record {
+  pushed = λ i less. keeps.pushed i (omega (arith, less, fewer));
+  shadow = keeps.shadow;
+  base = λ r e. keeps.base r (sym (sees_pushed f n fs r) ∙ e);
+  shape = λ r e. keeps.shape r (sym (sees_pushed f n fs r) ∙ e);
+  targets = keeps.targets;
+  workspaces = keeps.workspaces;
+}
+
 -- what the rows of items give in another home
 abbrev pub Stays : List Item → Setting → List Activation → Home → (limit low : ℕ) → Type 0
 Stays k ctx acts x n low =
@@ -242,6 +253,11 @@ Stays k ctx acts x n low =
 
 abbrev pub Again : List Item → Setting → List Activation → Home → (limit low : ℕ) → Type 0
 Again k ctx acts x n low = EachAbove low (frames_of ctx.stack) → Stays k ctx acts x n low
+
+-- saved words stay where all words there do
+pub saved_kept : (old new : ℕ → ℕ) (r : Resumed) (at : ℕ) → ((i : ℕ) → i < saved_words r → new (at + i) ≡ old (at + i)) → AreSaved old r at → AreSaved new r at
+saved_kept old new AStatement at same saved = tt
+saved_kept old new (AValue k ws) at same saved = (saved.0, λ i less. same i less ∙ saved.1 i less)
 
 behind_kept : (k : List Item) (acts : List Activation) (rows : (ctx : Setting) (x : Home) (n low : ℕ) → Again k ctx acts x n low) (ctx : Setting) (x : Home) (n low c : ℕ) → EachAbove low (frames_of ctx.stack)
     → Keeps ctx.home x (frames_of ctx.stack) low (ctx.stack.frame.at + 4) → Behind ctx k (RowsOf k) c ctx.stack.callers ctx.stack.bodies
@@ -255,6 +271,15 @@ behind_kept k acts rows ctx x n low c above keeps r = by ctx.stack.callers ctx.s
         record {
           before = r.before;
           called = r.called;
+          resumed = r.resumed;
+          returns = r.returns;
+          under_saved = r.under_saved;
+          pushed_is = r.pushed_is;
+          saved = saved_kept ctx.home.shadow x.shadow r.resumed (g.at + (g.layout.frame + r.under_saved))
+              (λ i less. let e : g.at + (g.layout.frame + r.under_saved) + i ≡ g.at + (g.layout.frame + (r.under_saved + i)) = omega arith in ap x.shadow e ∙ keeps.shadow (g.at + (g.layout.frame + (r.under_saved + i))) (omega (arith, above.1.0, r.mark)) (omega (arith, less, r.pushed, r.pushed_is)) ∙ ap ctx.home.shadow (sym e)) r.saved;
+          after = r.after;
+          restore = r.restore;
+          within = r.within;
           outer = r.outer;
           under = r.under;
           mark = r.mark;
@@ -262,9 +287,10 @@ behind_kept k acts rows ctx x n low c above keeps r = by ctx.stack.callers ctx.s
           frame = keeps.shadow (ctx.stack.frame.at + 1) from (omega arith) ∙ r.frame;
           place = keeps.shadow (ctx.stack.frame.at + 2) (omega (arith, from)) (omega arith) ∙ r.place;
           module' = keeps.shadow (ctx.stack.frame.at + 3) (omega (arith, from)) (omega arith) ∙ r.module';
-          then = rows (with_frames ctx g gs bs) x n low above.1 Quiet ctx.stack.frame.back [] c r.outer
+          then = rows (with_frames ctx (record g { pushed = r.under_saved }) gs bs) x n low above.1 _ r.after _ c r.outer
+              (keeps_fewer ctx.home x g r.under_saved (gs ++ bs) low (g.at + loop_place r.outer.taken) (omega (arith, r.pushed_is))
               (keeps_under ctx.home x ctx.stack.frame (g ∷ (gs ++ bs)) low (ctx.stack.frame.at + 4) (g.at + loop_place r.outer.taken) (omega (arith, r.under))
-              (λ i less. keeps.shadow (g.at + (g.layout.frame + i)) (omega (arith, above.1.0, r.mark)) (omega (arith, less, r.pushed))) keeps) r.then;
+              (λ i less. keeps.shadow (g.at + (g.layout.frame + i)) (omega (arith, above.1.0, r.mark)) (omega (arith, less, r.pushed))) keeps)) r.then;
         }
     by [] (b ∷ bs) above keeps r =
         record {
@@ -281,36 +307,42 @@ behind_kept k acts rows ctx x n low c above keeps r = by ctx.stack.callers ctx.s
     by [] [] above keeps r = r
 
 pub pending_kept : (k : List Item) (acts : List Activation) (rows : (ctx : Setting) (x : Home) (n low : ℕ) → Again k ctx acts x n low) (ctx : Setting) (x : Home) (n low : ℕ) → EachAbove low (frames_of ctx.stack)
-    → (q levels : ℕ) (done : List Datum) (next : List Shape) (left : List Argument) (p c : ℕ) (a : Around) → Keeps ctx.home x (frames_of ctx.stack) low (ctx.stack.frame.at + loop_place a.taken)
+    → (q levels : ℕ) (done : List Datum) (next : List Shape) (left : Arguments) (p c : ℕ) (a : Around) → Keeps ctx.home x (frames_of ctx.stack) low (ctx.stack.frame.at + loop_place a.taken)
     → Pending ctx q levels done next left (RowsOf k) p c a → Pending (renewed ctx acts x n) q levels done next left (RowsOf k) p c a
 pending_kept k acts rows ctx x n low above q levels done next left p c a keeps w =
     let top : ℕ = top_of w.before.stack.frame in
     let under : ℕ = w.before.stack.frame.pushed in
-    let same : (i : ℕ) → i < 4 + all_words w.shapes → x.shadow (top + i) ≡ ctx.home.shadow (top + i) =
+    let below : ℕ = saved_words w.resumed in
+    let same : (i : ℕ) → i < below + (4 + all_words w.shapes) → x.shadow (top + i) ≡ ctx.home.shadow (top + i) =
     λ i less.
     let e : top + i ≡ ctx.stack.frame.at + (ctx.stack.frame.layout.frame + (under + i)) =
     omega (arith, ap (λ (c : Setting). c.stack.frame.at) w.is, ap (λ (c : Setting). c.stack.frame.layout.frame) w.is) in
     ap x.shadow e ∙ keeps.pushed (under + i) (omega (arith, less, ap (λ (c : Setting). c.stack.frame.pushed) w.is)) ∙ ap ctx.home.shadow (sym e) in
     record {
       before = renewed w.before acts x n;
-      is = ap (λ (c : Setting). renewed c acts x n) w.is;
       shapes = w.shapes;
+      resumed = w.resumed;
+      is = ap (λ (c : Setting). renewed c acts x n) w.is;
+      saved = saved_kept ctx.home.shadow x.shadow w.resumed top (λ i less. same i (omega (arith, less))) w.saved;
       outer = w.outer;
       around = w.around;
       may = w.may;
+      returns = w.returns;
       takes = w.takes;
       room = w.room;
-      link = subst (IsLink ctx.stack.frame.display levels) (let e : top ≡ top + 0 = omega arith in ap ctx.home.shadow e ∙ sym (same 0 (omega arith)) ∙ ap x.shadow (sym e)) w.link;
-      given = all_given ctx acts x n low (ctx.stack.frame.at + loop_place a.taken) keeps w.shapes done (top + 4)
-          (λ i less. let e : top + 4 + i ≡ top + (4 + i) = omega arith in ap x.shadow e ∙ same (4 + i) (omega (arith, less)) ∙ ap ctx.home.shadow (sym e)) w.given;
+      link = subst (IsLink ctx.stack.frame.display levels) (sym (same below (omega arith))) w.link;
+      given = all_given ctx acts x n low (ctx.stack.frame.at + loop_place a.taken) keeps w.shapes done (top + below + 4)
+          (λ i less. let e : top + below + 4 + i ≡ top + (below + (4 + i)) = omega arith in ap x.shadow e ∙ same (below + (4 + i)) (omega (arith, less)) ∙ ap ctx.home.shadow (sym e)) w.given;
       middle = w.middle;
       arguments = w.arguments;
       end = w.end;
       call = w.call;
+      after = w.after;
+      restore = w.restore;
       within = w.within;
-      then = rows w.before x n low (subst (λ (c : Setting). EachAbove low (frames_of c.stack)) w.is above) Quiet w.end [] c w.outer
+      then = rows w.before x n low (subst (λ (c : Setting). EachAbove low (frames_of c.stack)) w.is above) _ w.after _ c w.outer
           (subst (λ (t : ℕ). Keeps w.before.home x (frames_of w.before.stack) low (w.before.stack.frame.at + loop_place t)) (ap (λ (o : Around). o.taken) w.around)
-          (keeps_before ctx w.before x (4 + all_words w.shapes) low (loop_place a.taken) w.is keeps))
+          (keeps_before ctx w.before x (below + (4 + all_words w.shapes)) low (loop_place a.taken) w.is keeps))
           w.then;
     }
 
@@ -516,10 +548,10 @@ pub stack_above : (ctx : Setting) (r : StackRegisters) → Standing ctx r → (c
 stack_above ctx r s = stands_above ctx.home.owner ctx.stack.base r.top ctx.stack.frame ctx.stack.callers ctx.stack.bodies s.stands (all_above ctx r s)
 
 -- the words of the FORs and WITHs around lie behind those of the variables
-pending_behind : (ctx : Setting) (q levels : ℕ) (done : List Datum) (next : List Shape) (left : List Argument) (k : List Item) (p c : ℕ) (a : Around) → Pending ctx q levels done next left (RowsOf k) p c a
-    → ((y : Setting) (p c : ℕ) (a : Around) → Rows y k Quiet p [] c a → own_words y.stack.frame ≤ a.taken) → own_words ctx.stack.frame ≤ a.taken
+pending_behind : (ctx : Setting) (q levels : ℕ) (done : List Datum) (next : List Shape) (left : Arguments) (k : List Item) (p c : ℕ) (a : Around) → Pending ctx q levels done next left (RowsOf k) p c a
+    → ((y : Setting) (t : Mode) (p : ℕ) (stack : List ℕ) (c : ℕ) (a : Around) → Rows y k t p stack c a → own_words y.stack.frame ≤ a.taken) → own_words ctx.stack.frame ≤ a.taken
 pending_behind ctx q levels done next left k p c a w rest =
-    omega (arith, rest w.before w.end c w.outer w.then, ap (λ (o : Around). o.taken) w.around, ap (λ (y : Setting). own_words y.stack.frame) w.is)
+    omega (arith, rest w.before _ w.after _ c w.outer w.then, ap (λ (o : Around). o.taken) w.around, ap (λ (y : Setting). own_words y.stack.frame) w.is)
 
 pub loops_behind : (k : List Item) (ctx : Setting) (t : Mode) (p : ℕ) (stack : List ℕ) (c : ℕ) (a : Around) → Rows ctx k t p stack c a → own_words ctx.stack.frame ≤ a.taken
 loops_behind [] ctx t p stack c a r = absurd r
@@ -529,19 +561,19 @@ loops_behind (Perform (Turns n kind z step left body) ∷ k) ctx t p stack c a r
 loops_behind (Perform (Holding place) ∷ k) ctx t p stack c a r =
     omega (arith, ap (λ (o : Around). o.taken) r.there.around, loops_behind k r.there.before _ _ _ _ r.there.outer r.there.then, ap (λ (c : Setting). own_words c.stack.frame) r.there.is)
 loops_behind (Perform (End n) ∷ k) ctx t p stack c a r = omega (arith, ap (λ (o : Around). o.taken) r.there.alone)
-loops_behind (Fill (Pass (Called q levels) kind done left) ∷ k) ctx t p stack c a r = pending_behind ctx q levels done _ left k _ _ a r.there.pending (λ y p c a. loops_behind k y Quiet p [] c a)
-loops_behind (Fill (PassPlace (Called q levels) done left) ∷ k) ctx t p stack c a r = pending_behind ctx q levels done _ left k _ _ a r.there.pending (λ y p c a. loops_behind k y Quiet p [] c a)
-loops_behind (Fill (PassAll (Called q levels) done left) ∷ k) ctx t p stack c a r = pending_behind ctx q levels done _ left k _ _ a r.there.pending (λ y p c a. loops_behind k y Quiet p [] c a)
+loops_behind (Fill (Pass (Called q levels) kind done left) ∷ k) ctx t p stack c a r = pending_behind ctx q levels done _ left k _ _ a r.there.pending (λ y t p stack c a. loops_behind k y t p stack c a)
+loops_behind (Fill (PassPlace (Called q levels) done left) ∷ k) ctx t p stack c a r = pending_behind ctx q levels done _ left k _ _ a r.there.pending (λ y t p stack c a. loops_behind k y t p stack c a)
+loops_behind (Fill (PassAll (Called q levels) done left) ∷ k) ctx t p stack c a r = pending_behind ctx q levels done _ left k _ _ a r.there.pending (λ y t p stack c a. loops_behind k y t p stack c a)
 loops_behind (i ∷ k) ctx t p stack c a r = loops_behind k ctx _ _ _ _ _ r.there.then
 
 -- and in the frame
-pub pending_fits : (ctx : Setting) (q levels : ℕ) (done : List Datum) (next : List Shape) (left : List Argument) (k : List Item) (p c : ℕ) (a : Around) → 4 + own_words ctx.stack.frame ≤ ctx.stack.frame.layout.frame
-    → Pending ctx q levels done next left (RowsOf k) p c a → ((y : Setting) (p c : ℕ) (a : Around) → 4 + own_words y.stack.frame ≤ y.stack.frame.layout.frame → Rows y k Quiet p [] c a → loop_place a.taken ≤ y.stack.frame.layout.frame)
+pub pending_fits : (ctx : Setting) (q levels : ℕ) (done : List Datum) (next : List Shape) (left : Arguments) (k : List Item) (p c : ℕ) (a : Around) → 4 + own_words ctx.stack.frame ≤ ctx.stack.frame.layout.frame
+    → Pending ctx q levels done next left (RowsOf k) p c a → ((y : Setting) (t : Mode) (p : ℕ) (stack : List ℕ) (c : ℕ) (a : Around) → 4 + own_words y.stack.frame ≤ y.stack.frame.layout.frame → Rows y k t p stack c a → loop_place a.taken ≤ y.stack.frame.layout.frame)
     → loop_place a.taken ≤ ctx.stack.frame.layout.frame
 pending_fits ctx q levels done next left k p c a mark w rest =
     let frame : ctx.stack.frame.layout.frame ≡ w.before.stack.frame.layout.frame = ap (λ (y : Setting). y.stack.frame.layout.frame) w.is in
     let words : own_words ctx.stack.frame ≡ own_words w.before.stack.frame = ap (λ (y : Setting). own_words y.stack.frame) w.is in
-    omega (arith, rest w.before w.end c w.outer (omega (arith, mark, frame, words)) w.then, ap (λ (o : Around). o.taken) w.around, frame)
+    omega (arith, rest w.before _ w.after _ c w.outer (omega (arith, mark, frame, words)) w.then, ap (λ (o : Around). o.taken) w.around, frame)
 
 pub loops_fit : (k : List Item) (ctx : Setting) (t : Mode) (p : ℕ) (stack : List ℕ) (c : ℕ) (a : Around) → 4 + own_words ctx.stack.frame ≤ ctx.stack.frame.layout.frame → Rows ctx k t p stack c a
     → loop_place a.taken ≤ ctx.stack.frame.layout.frame
@@ -553,9 +585,9 @@ loops_fit (Perform (Turns n kind z step left body) ∷ k) ctx t p stack c a mark
 loops_fit (Perform (Holding place) ∷ k) ctx t p stack c a mark r =
     omega (arith, ap (λ (o : Around). o.taken) r.there.around, r.there.room, ap (λ (c : Setting). c.stack.frame.layout.frame) r.there.is)
 loops_fit (Perform (End n) ∷ k) ctx t p stack c a mark r = omega (arith, ap (λ (o : Around). o.taken) r.there.alone, mark)
-loops_fit (Fill (Pass (Called q levels) kind done left) ∷ k) ctx t p stack c a mark r = pending_fits ctx q levels done _ left k _ _ a mark r.there.pending (λ y p c a. loops_fit k y Quiet p [] c a)
-loops_fit (Fill (PassPlace (Called q levels) done left) ∷ k) ctx t p stack c a mark r = pending_fits ctx q levels done _ left k _ _ a mark r.there.pending (λ y p c a. loops_fit k y Quiet p [] c a)
-loops_fit (Fill (PassAll (Called q levels) done left) ∷ k) ctx t p stack c a mark r = pending_fits ctx q levels done _ left k _ _ a mark r.there.pending (λ y p c a. loops_fit k y Quiet p [] c a)
+loops_fit (Fill (Pass (Called q levels) kind done left) ∷ k) ctx t p stack c a mark r = pending_fits ctx q levels done _ left k _ _ a mark r.there.pending (λ y t p stack c a. loops_fit k y t p stack c a)
+loops_fit (Fill (PassPlace (Called q levels) done left) ∷ k) ctx t p stack c a mark r = pending_fits ctx q levels done _ left k _ _ a mark r.there.pending (λ y t p stack c a. loops_fit k y t p stack c a)
+loops_fit (Fill (PassAll (Called q levels) done left) ∷ k) ctx t p stack c a mark r = pending_fits ctx q levels done _ left k _ _ a mark r.there.pending (λ y t p stack c a. loops_fit k y t p stack c a)
 loops_fit (i ∷ k) ctx t p stack c a mark r = loops_fit k ctx _ _ _ _ _ mark r.there.then
 
 -- activations stay linked as long as the first words of their frames stay

@@ -23,6 +23,7 @@ module _ (library : List Resolved) (loaded : List ℕ) (table : List Module) (ac
         entered = g.entered;
         piece = g.piece;
         size = g.size;
+        returns = g.returns;
         procedures = g.procedures;
         codes = g.codes;
         variables = λ n o k offset kind. let v = g.variables n o k offset kind in (shape f.number n ∙ v.0, base f.number n ∙ v.1);

@@ -1,8 +1,8 @@
 -- What is around the running frame's WITHs: the same but for the records that its layout holds.
 use Rattle.std.proofs.Common.{◌≡◌, ℕ, ◌+◌, ◌<◌, ◌≤◌, inl, inr, Some, List, [], ◌∷◌, ◌++◌, length, get_or, refl, sym, ap, ◌∙◌, subst, ⊎_elim, arith}
 use Rattle.std.specs.Prelude.{slice_get}
-use Rattle.lil_resolved.specs.{Kinds.{Shape, all_words, locals_at, parameters_at, offsets_from}, Resolved.{Procedure, Resolved}}
-use Rattle.lil_meaning.specs.{Items.{Root, Global, Local, Object, Item, Activation, Source, loaded_at}, Need.frame_of, Steps.{owner_of, procedure_of, procedures_of, procedure_name}}
+use Rattle.lil_resolved.specs.{Kinds.{result_here, Shape, all_words, locals_at, parameters_at, offsets_from}, Resolved.{Procedure, Resolved}}
+use Rattle.lil_meaning.specs.{Items.{Root, Global, Local, Object, Item, Activation, Source, loaded_at}, Need.frame_of, Steps.{result_by, owner_of, procedure_of, procedures_of, procedure_name}}
 use Rattle.lil_mcode.specs.Table.{Module, State, StackRegisters, stack_of}
 use Rattle.lil_table.specs.Rows.{Layout, holding}
 use Rattle.lil_match.specs.{Homes.Home, Goes.{IsNamed, IsPiece, OwnWords, Stands, Linked, Chained, IsPart, module_part, HasCodes, IsKnown, Standing, EachLocal, EachHanded, beyond, Shared, Goes}, Waits.{Frame, Setting, inside_with}}
@@ -36,9 +36,9 @@ module _ (library : List Resolved) (loaded : List ℕ) (table : List Module) (ac
   words = ap (λ (y : Layout). y.words) part
 
   pub known_part : (its : Activation) → slice_get more activation ≡ Some its → owner_of (slice_get more activation) ≡ f.number → procedure_of (slice_get more activation) ≡ procedure
-      → IsNamed other (procedure_name (loaded_at library loaded f.number) procedure) → IsPiece other → m.frame ≡ frame_of (loaded_at library loaded f.number) procedure → IsKnown library loaded table acts h f
+      → IsNamed other (procedure_name (loaded_at library loaded f.number) procedure) → IsPiece other → m.frame ≡ frame_of (loaded_at library loaded f.number) procedure → result_here m.scope ≡ result_by (loaded_at library loaded f.number) procedure → IsKnown library loaded table acts h f
       → IsKnown library loaded table more h other
-  known_part its runs owner called entered its_piece size k = record {
+  known_part its runs owner called entered its_piece size returns k = record {
     known = k.known;
     named = k.named;
     its = its;
@@ -48,6 +48,7 @@ module _ (library : List Resolved) (loaded : List ℕ) (table : List Module) (ac
     entered = entered;
     piece = its_piece;
     size = size;
+    returns = returns;
     procedures = ap (λ (y : Layout). y.scope.procedures) part ∙ k.procedures;
     codes = codes_part f.own (procedures_of (loaded_at library loaded f.number)) f.layout m part k.codes;
     variables = λ x o t at typed. k.variables x o t (ap (λ (y : Layout). slice_get y.offsets x) (sym part) ∙ at) (ap (λ (y : Layout). slice_get y.scope.variables x) (sym part) ∙ typed);
@@ -80,7 +81,7 @@ module _ (ctx : Setting) (m : Layout) (alike : IsAlike ctx.stack.frame.layout m)
   same_locals = ap (λ (y : Layout). locals_at y.scope 0) alike
 
   known_laid : IsKnown ctx.library ctx.loaded ctx.table ctx.activations ctx.home ctx.stack.frame → IsKnown ctx.library ctx.loaded ctx.table ctx.activations ctx.home (record (ctx.stack.frame) { layout = m })
-  known_laid k = known_part ctx.library ctx.loaded ctx.table ctx.activations ctx.activations ctx.home f m f.activation f.procedure f.entry f.after f.piece f.at f.pushed f.display f.back (ap module_part alike) k.its k.runs k.owner k.called (record { there = k.entered.there; apart = k.entered.apart }) (record { is = k.piece.is; within = k.piece.within }) (same_frame ∙ k.size) k
+  known_laid k = known_part ctx.library ctx.loaded ctx.table ctx.activations ctx.activations ctx.home f m f.activation f.procedure f.entry f.after f.piece f.at f.pushed f.display f.back (ap module_part alike) k.its k.runs k.owner k.called (record { there = k.entered.there; apart = k.entered.apart }) (record { is = k.piece.is; within = k.piece.within }) (same_frame ∙ k.size) (ap (λ (y : Layout). result_here y.scope) alike ∙ k.returns) k
 
   words_laid : (top : ℕ) → OwnWords ctx.home.owner ctx.stack.frame top → OwnWords ctx.home.owner (record (ctx.stack.frame) { layout = m }) top
   words_laid top w = record {

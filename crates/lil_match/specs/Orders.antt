@@ -1,9 +1,9 @@
 -- Where parts stand: behind their start, and within the code.
 use Rattle.std.proofs.Common.{ℕ, ◌+◌, ◌<◌, ◌≤◌, List, [], ◌∷◌, length, Option, arith}
-use Rattle.lil_resolved.specs.Resolved.{Expression, Constant, Taken, One, Two, Short, Apply, With, WithSpan, Argument, ByValue, OfPlace, OfAll, OfArray, OfText, Statement, Statements, kind_of}
+use Rattle.lil_resolved.specs.Resolved.{Expression, Constant, Taken, One, Two, Short, Apply, With, WithSpan, Invoke, Argument, Arguments, NoMore, Also, ByValue, OfPlace, OfAll, OfArray, OfText, Statement, Statements, kind_of}
 use Rattle.lil_resolved.specs.Sizes.{argument_words}
-use Rattle.lil_asm.specs.{declared.instr.Instr.{Instr, TheVariants.{Liw, Lag, Dup, Spn}}, Decoding.decoded_stands}
-use Rattle.lil_table.specs.{Lengths.{instrs_long, place_long, statement_long, body_long}, Rows.{Layout, IsAt, InstrsAt, one_code, two_code, test_code, function_code, access_of, address_code, ExpressionAt, ArgumentAt, ArgumentsAt, StatementAt, BodyAt, short_code}}
+use Rattle.lil_asm.specs.{declared.instr.Instr.{Instr, TheVariants.{Liw, Lag, Dup, Spn, Rst}}, Decoding.decoded_stands}
+use Rattle.lil_table.specs.{Lengths.{instrs_long, place_long, expression_long, statement_long, body_long}, Rows.{Layout, IsAt, InstrsAt, one_code, two_code, test_code, function_code, access_of, address_code, ExpressionAt, ArgumentAt, ArgumentsAt, StatementAt, BodyAt, short_code}}
 
 pub instr_order : (code : List ℕ) (p : ℕ) (i : Instr) (q : ℕ) → IsAt code p i q → (p < q) × (q ≤ length code)
 instr_order code p i q h =
@@ -59,6 +59,9 @@ expression_stands l code (WithSpan s k a b) p q h =
     let last = instrs_order code (test_code k (kind_of b)) h.last h.end h.last_test more.1 in
     let by = instr_order code h.end Spn q h.by in
     (omega (arith, first.0, value.0, test.0, more.0, last.0, by.0), by.1)
+expression_stands l code (Invoke x n k given) p q h =
+    let last = instr_order code h.end (Rst 1) q h.restore in
+    (omega (arith, expression_long l code (Invoke x n k given) p q h), last.1)
 
 -- the place where an expression begins lies within the code
 pub expression_within : (l : Layout) (code : List ℕ) (e : Expression) (p q : ℕ) → ExpressionAt l code e p q → p < length code
@@ -86,9 +89,9 @@ argument_within l code n (OfArray d high) p q h inside =
     omega (arith, place_long l code d p h.found h.here, instrs_long code (address_code (access_of l d)) h.found h.start h.address, s.0, s.1)
 argument_within l code n (OfText cs) p q h inside = instr_within code p (Lag h.offset) h.start h.address
 
-pub arguments_within : (l : Layout) (code : List ℕ) (n : ℕ) (given : List Argument) (p q : ℕ) → ArgumentsAt l code n given p q → q < length code → p < length code
-arguments_within l code n [] p q h inside = omega (arith, h, inside)
-arguments_within l code n (a ∷ given) p q h inside = argument_within l code n a p h.middle h.here (arguments_within l code (argument_words a + n) given h.middle q h.then inside)
+pub arguments_within : (l : Layout) (code : List ℕ) (n : ℕ) (given : Arguments) (p q : ℕ) → ArgumentsAt l code n given p q → q < length code → p < length code
+arguments_within l code n NoMore p q h inside = omega (arith, h, inside)
+arguments_within l code n (Also a given) p q h inside = argument_within l code n a p h.middle h.here (arguments_within l code (argument_words a + n) given h.middle q h.then inside)
 
 -- so do those where a statement and statements begin
 pub statement_within : (l : Layout) (code : List ℕ) (n : ℕ) (exit : Option ℕ) (s : Statement) (p q : ℕ) → StatementAt l code n exit s p q → q < length code → p < length code

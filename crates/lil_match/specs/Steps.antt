@@ -4,12 +4,12 @@ use Rattle.std.proofs.Common.{◌≡◌, ℕ, zero, suc, ◌+◌, ◌<◌, Optio
 use Rattle.std.specs.Prelude.{slice_get}
 use Rattle.std.proofs.lemmas.{Option.same_Some, Bool.lt-ltb}
 use Rattle.lil_base.specs.declared.fault.{TrapKind.TrapKind, LimitKind.LimitKind}
-use Rattle.lil_resolved.specs.{Kinds.{Shape, is_there}, Resolved.{Designator, Argument, Expression, kind_of}, Sizes.{depth, place_depth}}
+use Rattle.lil_resolved.specs.{Kinds.{Shape, is_there}, Resolved.{Designator, Argument, Arguments, NoMore, Also, Expression, kind_of}, Sizes.{depth, place_depth}}
 use Rattle.lil_meaning.specs.{Items.{Global, Place, Datum, loaded_at, Called, Pass, PassPlace, PassAll, Passing, Turns, Holding, End, Item, Perform, Activation, Going, Source, Cells, Root, Local, Object, Hole, Evaluate, PlaceOf, Fill}, World.{all_closed, World}, Steps.{current, held_in, owner_of, procedure_of, procedure_name, trap_at, trapped, next}}
 use Rattle.lil_mcode.specs.{declared.machine.Event.{Event, TheVariants.{Trap, Went, Limit}}, Table.{Kept, State, Module, module_at, mstep, act, fetched, performed, going, push_row}}
 use Rattle.lil_table.specs.Rows.{holding, loop_place, IsAt, PlaceAt, ExpressionAt}
 use Rattle.lil_match.specs.{Goes.{IsNamed, Shared, IsTrapped, IsProgram, GoesOn, Lands, IsStill, beyond, Touches, Succeeds, Short, IsFull, Grows, Goes}, Running.{running, react, Run, mrun, advanced}, Homes.{address, shape_there, Home, extends_self, lives, Mem}, Kept.{sees_laid, sees_pushed, loops_behind}}
-use Rattle.lil_match.specs.{Waits.{stutter, Frame, own_words, Setting, frames_of, inside_with, pushing, Pending, sees, Mode, Around, RowsOf, Rows, HoldingWaits, Stack, frame_of, laid_out, at_home, Quiet, ValueOf, AtPlace, Reach, Jumps, AfterJumps, Ahead, ItemWaits}, Parts.yes}
+use Rattle.lil_match.specs.{Waits.{stutter, Frame, own_words, Setting, frames_of, inside_with, pushing, Pending, saved_words, sees, Mode, Around, RowsOf, Rows, HoldingWaits, Stack, frame_of, laid_out, at_home, Quiet, ValueOf, AtPlace, Reach, Jumps, AfterJumps, Ahead, ItemWaits}, Parts.yes}
 use Rattle.lil_base.specs.declared.fault.LimitKind.TheVariants as limit
 use Rattle.lil_asm.specs.{declared.instr.Instr.{Instr, TheVariants.Jmp}, Stretches.{stretch_short, IsInside, decoded_inside}}
 
@@ -23,18 +23,18 @@ closed ctx (Perform (Holding place) ∷ k) t p stack c a r = closed r.there.befo
 closed ctx (Perform (End n) ∷ k) t p stack c a r = r.there.activation
 closed ctx (Fill (Pass (Called q levels) kind done left) ∷ k) t p stack c a r =
     let w = r.there.pending in
-    closed w.before k Quiet w.end [] r.later w.outer w.then ∙ sym (ap (λ (c : Setting). c.stack.frame.activation) w.is)
+    closed w.before k _ w.after _ r.later w.outer w.then ∙ sym (ap (λ (c : Setting). c.stack.frame.activation) w.is)
 closed ctx (Fill (PassPlace (Called q levels) done left) ∷ k) t p stack c a r =
     let w = r.there.pending in
-    closed w.before k Quiet w.end [] r.later w.outer w.then ∙ sym (ap (λ (c : Setting). c.stack.frame.activation) w.is)
+    closed w.before k _ w.after _ r.later w.outer w.then ∙ sym (ap (λ (c : Setting). c.stack.frame.activation) w.is)
 closed ctx (Fill (PassAll (Called q levels) done left) ∷ k) t p stack c a r =
     let w = r.there.pending in
-    closed w.before k Quiet w.end [] r.later w.outer w.then ∙ sym (ap (λ (c : Setting). c.stack.frame.activation) w.is)
+    closed w.before k _ w.after _ r.later w.outer w.then ∙ sym (ap (λ (c : Setting). c.stack.frame.activation) w.is)
 closed ctx (i ∷ k) t p stack c a r = closed ctx k _ _ _ _ _ r.there.then
 
 -- so do those of a call's arguments
-pub pending_closed : (ctx : Setting) (k : List Item) (q levels : ℕ) (done : List Datum) (next : List Shape) (left : List Argument) (p c : ℕ) (a : Around) → Pending ctx q levels done next left (RowsOf k) p c a → current k ≡ ctx.stack.frame.activation
-pending_closed ctx k q levels done next left p c a w = closed w.before k Quiet w.end [] c w.outer w.then ∙ sym (ap (λ (c : Setting). c.stack.frame.activation) w.is)
+pub pending_closed : (ctx : Setting) (k : List Item) (q levels : ℕ) (done : List Datum) (next : List Shape) (left : Arguments) (p c : ℕ) (a : Around) → Pending ctx q levels done next left (RowsOf k) p c a → current k ≡ ctx.stack.frame.activation
+pending_closed ctx k q levels done next left p c a w = closed w.before k _ w.after _ c w.outer w.then ∙ sym (ap (λ (c : Setting). c.stack.frame.activation) w.is)
 
 -- the place that a WITH around holds, whose address stands in a word of the frame
 pub record Held (ctx : Setting) (place : Place) (shape : Shape) (word : ℕ) : Type 0 where
@@ -76,13 +76,13 @@ held_pushed ctx before place shape n word is h =
       low = h.low;
     })
 
-held_pending : (ctx : Setting) (k : List Item) (q levels : ℕ) (done : List Datum) (next : List Shape) (left : List Argument) (p c : ℕ) (a : Around) → Pending ctx q levels done next left (RowsOf k) p c a → (w word : ℕ) (shape : Shape)
+held_pending : (ctx : Setting) (k : List Item) (q levels : ℕ) (done : List Datum) (next : List Shape) (left : Arguments) (p c : ℕ) (a : Around) → Pending ctx q levels done next left (RowsOf k) p c a → (w word : ℕ) (shape : Shape)
     → slice_get ctx.stack.frame.layout.held w ≡ Some word → slice_get ctx.stack.frame.layout.scope.held w ≡ Some shape
-    → ((y : Setting) (p c : ℕ) (a : Around) → Rows y k Quiet p [] c a → slice_get y.stack.frame.layout.held w ≡ Some word → slice_get y.stack.frame.layout.scope.held w ≡ Some shape → HeldHere y (held_in k w) shape word)
+    → ((y : Setting) (t : Mode) (p : ℕ) (stack : List ℕ) (c : ℕ) (a : Around) → Rows y k t p stack c a → slice_get y.stack.frame.layout.held w ≡ Some word → slice_get y.stack.frame.layout.scope.held w ≡ Some shape → HeldHere y (held_in k w) shape word)
     → HeldHere ctx (held_in k w) shape word
 held_pending ctx k q levels done next left p c a r w word shape at typed rest =
-    let h = rest r.before r.end c r.outer r.then (sym (ap (λ (y : Setting). slice_get y.stack.frame.layout.held w) r.is) ∙ at) (sym (ap (λ (y : Setting). slice_get y.stack.frame.layout.scope.held w) r.is) ∙ typed) in
-    record { place = h.place; found = h.found; held = held_pushed ctx r.before h.place shape (4 + all_words r.shapes) word r.is h.held }
+    let h = rest r.before _ r.after _ c r.outer r.then (sym (ap (λ (y : Setting). slice_get y.stack.frame.layout.held w) r.is) ∙ at) (sym (ap (λ (y : Setting). slice_get y.stack.frame.layout.scope.held w) r.is) ∙ typed) in
+    record { place = h.place; found = h.found; held = held_pushed ctx r.before h.place shape (saved_words r.resumed + (4 + all_words r.shapes)) word r.is h.held }
 
 no_word : (word : ℕ) → None ≡ Some word → ⊥
 no_word word e = cc
@@ -130,11 +130,11 @@ held_here ctx (Perform (Holding place) ∷ k) t p stack c a r w word shape at ty
         record { place = h.place; found = h.found; held = held_inside ctx y.before h.place shape y.shape (loop_place y.outer.taken) word y.is h.held }
 held_here ctx (Perform (End n) ∷ k) t p stack c a r w word shape at typed = absurd (none_in ctx.stack.frame.layout.held w word r.there.free at)
 held_here ctx (Fill (Pass (Called q levels) kind done left) ∷ k) t p stack c a r w word shape at typed =
-    held_pending ctx k q levels done _ left _ _ a r.there.pending w word shape at typed (λ y p c a rows at typed. held_here y k Quiet p [] c a rows w word shape at typed)
+    held_pending ctx k q levels done _ left _ _ a r.there.pending w word shape at typed (λ y t p stack c a rows at typed. held_here y k t p stack c a rows w word shape at typed)
 held_here ctx (Fill (PassPlace (Called q levels) done left) ∷ k) t p stack c a r w word shape at typed =
-    held_pending ctx k q levels done _ left _ _ a r.there.pending w word shape at typed (λ y p c a rows at typed. held_here y k Quiet p [] c a rows w word shape at typed)
+    held_pending ctx k q levels done _ left _ _ a r.there.pending w word shape at typed (λ y t p stack c a rows at typed. held_here y k t p stack c a rows w word shape at typed)
 held_here ctx (Fill (PassAll (Called q levels) done left) ∷ k) t p stack c a r w word shape at typed =
-    held_pending ctx k q levels done _ left _ _ a r.there.pending w word shape at typed (λ y p c a rows at typed. held_here y k Quiet p [] c a rows w word shape at typed)
+    held_pending ctx k q levels done _ left _ _ a r.there.pending w word shape at typed (λ y t p stack c a rows at typed. held_here y k t p stack c a rows w word shape at typed)
 held_here ctx (i ∷ k) t p stack c a r w word shape at typed = held_here ctx k _ _ _ _ _ r.there.then w word shape at typed
 
 -- an instruction of the running frame's code is one of its module's
@@ -185,6 +185,12 @@ pub grows_self : (acts : List Activation) → Grows acts acts
 grows_self acts i a e = e
 
 -- a stack that stays
+-- the roots that are none of their variables don't hang on what is pushed
+pub beyond_pushed : (f : Frame) (n : ℕ) (fs : List Frame) (r : Root) → beyond (record f { pushed = n } ∷ fs) r ≡ beyond (f ∷ fs) r
+beyond_pushed f n fs (Global m x) = refl
+beyond_pushed f n fs (Local a x) = refl
+beyond_pushed f n fs (Object o) = refl
+
 pub succeeds_self : (y : Stack) (acts : List Activation) → Succeeds y y acts
 succeeds_self y acts = record { base = refl; limit = omega arith; frames = λ a seen. inl seen }
 
@@ -422,6 +428,33 @@ module _ (ctx : Setting) where
       quiet : (i : ℕ) → i < suc g.steps → IsStill s.world (mrun i (running m s.world))
       quiet zero less = record { world = refl; finish = refl }
       quiet (suc i) less = subst (λ (r : Run). IsStill s.world (mrun i r)) (sym e) (g.quiet i (omega arith))
+
+  -- the same where more words are pushed then
+  pub goes_after_pushed : (s : Source) (k : List Item) (m n : State) (x : Home) (w : ℕ) (budget rest : ℕ) → advanced (running m s.world) ≡ running n s.world
+      → Touches h x (frames_of st) st.base st.limit → Goes (pushing (at_home ctx x) w) s k n rest → rest + 1 ≤ budget → Goes ctx s k m budget
+  goes_after_pushed s k m n x w budget rest e first g less =
+      goes_after_in s k m n x budget rest e first (record {
+        steps = g.steps;
+        later = g.later;
+        quiet = g.quiet;
+        activations = g.activations;
+        home = g.home;
+        stack = g.stack;
+        lands = g.lands;
+        grown = g.grown;
+        touch = record {
+          owner = g.touch.owner;
+          shadow = g.touch.shadow;
+          base = λ r away e. g.touch.base r (beyond_pushed st.frame (w + st.frame.pushed) (st.callers ++ st.bodies) r ∙ away) e;
+          shape = λ r away e. g.touch.shape r (beyond_pushed st.frame (w + st.frame.pushed) (st.callers ++ st.bodies) r ∙ away) e;
+          targets = g.touch.targets;
+          workspaces = g.touch.workspaces;
+          fixed = g.touch.fixed;
+        };
+        same = record { base = g.same.base; limit = g.same.limit; frames = g.same.frames };
+        cost = g.cost;
+        falls = g.falls;
+      }) less
 
   pub goes_after : (s : Source) (k : List Item) (m n : State) (budget rest : ℕ) → advanced (running m s.world) ≡ running n s.world
       → Goes ctx s k n rest → rest + 1 ≤ budget → Goes ctx s k m budget

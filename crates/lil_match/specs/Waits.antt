@@ -1,18 +1,18 @@
 -- What items need from the code: where they stand, and where the items behind them go on. This speaks of homes and of the expression
 -- stack, and never of the store or of the cells.
-use Rattle.std.proofs.Common.{◌≡◌, ℕ, zero, suc, ◌+◌, ◌-◌, ◌%◌, ◌<◌, ◌≤◌, ◌⊎◌, true, false, Some, None, List, [], ◌∷◌, ◌++◌, length, map, Bool, refl}
+use Rattle.std.proofs.Common.{◌≡◌, ℕ, zero, suc, ◌+◌, ◌-◌, ◌%◌, ◌<◌, ◌≤◌, ◌⊎◌, true, false, Some, None, List, [], ◌∷◌, ◌++◌, length, map, get_or, reverse, Bool, refl}
 use Rattle.std.specs.Prelude.{ℤ, ◌+ℤ◌, Option, ◌==◌, slice_get}
 use Rattle.std.specs.List.{list_any}
 use Rattle.lil_base.specs.{Words.{between, word_of}, declared.operator.{TwoOp.TwoOp}, Requests.request_number}
-use Rattle.lil_resolved.specs.Kinds.{Workspaces, Kind, OfTruth, OfCharacter, OfSet, OfPointer, base_of, is_plain, takes_value, stores_value, least, greatest, numbers, Scalar, within, scalar_word, Shape, Word, Row, Address, Opened, words, is_there, part_at, offset, element_of, all_words, locals_at, Scope, MayCall, parameters_of, parameters_at, procedure_by}
-use Rattle.lil_resolved.specs.{Resolved.{Named, Designator, Variable, Handed, Held, Field, Element, Follow, Expression, Constant, Taken, One, Two, Short, Apply, With, WithSpan, Argument, ByValue, OfPlace, OfAll, OfArray, OfText, Statement, Assign, Copy, Text, Change, Member, New, Allocate, Request, Inside, If, Case, While, Repeat, Loop, Exit, Halt, Return, Call, For, Statements, Empty, Then, Resolved, kind_of, is_relation, result_kind, function_kind, shape_of}, Sizes.{place_depth, depth}}
-use Rattle.lil_resolved.specs.Sound.{request_parameters, parameter_of, AreServed}
-use Rattle.lil_meaning.specs.Items.{Root, Local, Place, Under, alone, Datum, Scalars, Places, Wholes, Opens, Texts, Hole, Get, IndexBy, IndexAt, Pointed, SetTo, StoreAt, CopyTo, CopyFrom, TextTo, NewAt, AllocateBy, AllocateAt, ChangeBy, ChangeAt, OneOf, LeftOf, RightOf, ShortOf, ApplyTo, WithMember, MemberOf, WithMembers, MembersFrom, MembersTo, MemberBy, MemberAt, Requested, Called, Pass, PassPlace, PassAll, PassArray, Choose, Turn, Again, Pick, Hold, StartOf, LimitOf, Task, Do, Passing, Until, Looping, Turns, Holding, End, Item, Value, Evaluate, PlaceOf, Fill, Perform, Activation, Parked, loaded_at, Part as PartOf}
+use Rattle.lil_resolved.specs.Kinds.{result_of, result_here, Workspaces, Kind, OfTruth, OfCharacter, OfSet, OfPointer, base_of, is_plain, takes_value, stores_value, least, greatest, numbers, Scalar, within, scalar_word, Shape, Word, Row, Address, Opened, words, is_there, part_at, offset, element_of, all_words, locals_at, Scope, MayCall, parameters_of, parameters_at, procedure_by}
+use Rattle.lil_resolved.specs.{Resolved.{Named, Designator, Variable, Handed, Held, Field, Element, Follow, Expression, Constant, Taken, One, Two, Short, Apply, With, WithSpan, Invoke, Argument, Arguments, NoMore, Also, ByValue, OfPlace, OfAll, OfArray, OfText, Statement, Assign, Copy, Text, Change, Member, New, Allocate, Request, Inside, If, Case, While, Repeat, Loop, Exit, Halt, Return, Answer, Call, For, Statements, Empty, Then, Resolved, kind_of, is_relation, result_kind, function_kind, shape_of}, Sizes.{place_depth, depth}}
+use Rattle.lil_resolved.specs.Sound.{request_parameters, parameter_of, parameters_given, AreServed}
+use Rattle.lil_meaning.specs.Items.{Root, Local, Place, Under, alone, Datum, Scalars, Places, Wholes, Opens, Texts, Hole, Get, IndexBy, IndexAt, Pointed, SetTo, StoreAt, CopyTo, CopyFrom, TextTo, NewAt, AllocateBy, AllocateAt, ChangeBy, ChangeAt, OneOf, LeftOf, RightOf, ShortOf, ApplyTo, WithMember, MemberOf, WithMembers, MembersFrom, MembersTo, MemberBy, MemberAt, Requested, Called, Pass, PassPlace, PassAll, PassArray, Returning, Choose, Turn, Again, Pick, Hold, StartOf, LimitOf, Task, Do, Passing, Until, Looping, Turns, Holding, End, Item, Value, Evaluate, PlaceOf, Fill, Perform, Activation, Parked, loaded_at, Part as PartOf}
 use Rattle.lil_meaning.specs.{Steps.{turns}, Need.{frame_of as words_of}}
-use Rattle.lil_asm.specs.{declared.instr.Instr.TheVariants.{Liw, Psh, Psm, Cll, Ent, Rtn, Jmp, Svc}, Requests.request_words}
+use Rattle.lil_asm.specs.{declared.instr.Instr.TheVariants.{Liw, Psh, Psm, Cll, Ent, Rtn, Rst, Jmp, Svc}, Requests.request_words}
 use Rattle.lil_mcode.specs.Table.{Module, Kept, body_entry}
 use Rattle.lil_base.specs.declared.request.Request as request
-use Rattle.lil_table.specs.Rows.{Layout, holding, framed, exactly, HasText, text_words, arguments_words, IsAt, InstrsAt, test_code, Access, InData, InFrame, OnTop, access_of, address_code, readied, PlaceAt, ExpressionAt, ArgumentsAt, GivenAt, given_words, StatementAt, BodyAt, TurnsRow, RoundRow, loop_place, Behind as Past}
+use Rattle.lil_table.specs.Rows.{Layout, leave_code, holding, framed, exactly, HasText, text_words, arguments_words, IsAt, InstrsAt, test_code, Access, InData, InFrame, OnTop, access_of, address_code, readied, PlaceAt, ExpressionAt, ArgumentsAt, GivenAt, given_words, StatementAt, BodyAt, TurnsRow, RoundRow, loop_place, Behind as Past}
 use Rattle.lil_match.specs.Homes.{word_for, Refers, IsWord, Home, address, shape_there}
 
 -- whether a parameter and a datum are open arrays
@@ -36,9 +36,9 @@ AreTaken [] = Unit {0}
 AreTaken (t ∷ ts) = IsTaken t × AreTaken ts
 
 -- the arguments of a request, those that are done, by whether they are arrays, and those that are left, are arrays where its parameters are
-pub record TakesAll (ts : Scope) (r : request.Request) (done : List Bool) (left : List Argument) : Type 0 where
-  pub same : map is_open (request_parameters r) ≡ done ++ map is_open (map (parameter_of ts) left)
-  pub taken : AreTaken (map (parameter_of ts) left)
+pub record TakesAll (ts : Scope) (r : request.Request) (done : List Bool) (left : Arguments) : Type 0 where
+  pub same : map is_open (request_parameters r) ≡ done ++ map is_open (parameters_given ts left)
+  pub taken : AreTaken (parameters_given ts left)
   pub served : AreServed left
 
 -- What comes from the items before: nothing, a value of a kind, or the place of a designator, as the code has it.
@@ -221,6 +221,38 @@ abbrev pub IsLink : (display : List ℕ) → ℕ → ℕ → Type 0
 IsLink display zero w = Unit {0}
 IsLink display (suc i) w = slice_get display i ≡ Some w
 
+-- ---- with what the one who calls goes on
+-- nothing, or the value of a function, of a kind, and below it the words that were saved before the call
+pub data Resumed : Type 0 where
+  AStatement : Resumed
+  AValue : (k : Kind) (saved : List ℕ) → Resumed
+
+abbrev pub resumed_mode : Resumed → Mode
+resumed_mode AStatement = Quiet
+resumed_mode (AValue k saved) = ValueOf (base_of k)
+
+abbrev pub resumed_stack : Resumed → List ℕ
+resumed_stack AStatement = []
+resumed_stack (AValue k saved) = saved
+
+abbrev pub result_in : Resumed → Option Kind
+result_in AStatement = None
+result_in (AValue k saved) = Some k
+
+-- they and their number stand in the stack of frames, the lowest first
+abbrev pub saved_words : Resumed → ℕ
+saved_words AStatement = 0
+saved_words (AValue k saved) = length saved + 1
+
+abbrev pub AreSaved : (ℕ → ℕ) → Resumed → ℕ → Type 0
+AreSaved shadow AStatement at = Unit {0}
+AreSaved shadow (AValue k saved) at = (length saved ≤ 15) × ((i : ℕ) → i < length saved + 1 → shadow (at + i) ≡ get_or (reverse saved ++ length saved ∷ []) i 0)
+
+-- the instruction that brings the saved words back below a function's value
+abbrev pub RestoresAt : List ℕ → Resumed → ℕ → ℕ → Type 0
+RestoresAt code AStatement end after = end ≡ after
+RestoresAt code (AValue k saved) end after = IsAt code end (Rst 1) after
+
 -- what items need of the code of a frame alone
 module _ (frame : Frame) where
   open frame use {own, piece}
@@ -247,6 +279,17 @@ module _ (frame : Frame) where
 
   abbrev pub placed : (s : Statement) (a : Around) (to : (p q : ℕ) → StatementAt l piece (a.taken) a.exit s p q → ℕ) (p : ℕ) (stack : List ℕ) (did : DoPart s p stack a) → PlacedPart s a to (to p did.end did.here) stack
   placed s a to p stack did = record { empty = did.empty; amid = record { from = p; end = did.end; here = did.here; within = did.within; at = refl } }
+
+  -- the value that a function returns is to come, of a kind: its test, and the return
+  pub record ReturningPart (j k : Kind) (p : ℕ) (stack : List ℕ) : Type 0 where
+    pub empty : stack ≡ []
+    pub stores : stores_value k j ≡ true
+    pub result : result_here l.scope ≡ Some k
+    pub tested : ℕ
+    pub test : InstrsAt piece (test_code k j) p tested
+    pub end : ℕ
+    pub leave : IsAt piece tested Rtn end
+    pub within : end < length piece
 
   pub record EvaluatePart (e : Expression) (p : ℕ) (stack : List ℕ) : Type 0 where
     pub end : ℕ
@@ -294,7 +337,7 @@ module _ (frame : Frame) where
     pub within : end < length piece
 
   -- the arguments of a request that are left, above so many words, and what follows the last one
-  pub record LeftPart (r : request.Request) (done : List Bool) (left : List Argument) (count p : ℕ) : Type 0 where
+  pub record LeftPart (r : request.Request) (done : List Bool) (left : Arguments) (count p : ℕ) : Type 0 where
     pub middle : ℕ
     pub given : ArgumentsAt l piece count left p middle
     pub forms : TakesAll l.scope r done left
@@ -524,7 +567,7 @@ module _ (ctx : Setting) where
   DataOn (d ∷ ds) stack below = (middle : List ℕ) × DatumOn d middle below × DataOn ds stack middle
 
   -- the value of the next argument is there
-  pub record PassPart (j : Kind) (r : request.Request) (k : Kind) (done : List Datum) (left : List Argument) (p : ℕ) (stack : List ℕ) : Type 0 where
+  pub record PassPart (j : Kind) (r : request.Request) (k : Kind) (done : List Datum) (left : Arguments) (p : ℕ) (stack : List ℕ) : Type 0 where
     pub takes : takes_value k j ≡ true
     pub on : DataOn done stack []
     pub tested : ℕ
@@ -532,7 +575,7 @@ module _ (ctx : Setting) where
     pub rest : LeftPart active r (map is_array done ++ false ∷ []) left (1 + length stack) tested
 
   -- its place is there, an array
-  pub record PassArrayPart (d : Designator) (r : request.Request) (high : ℕ) (done : List Datum) (left : List Argument) (p : ℕ) (stack : List ℕ) : Type 0 where
+  pub record PassArrayPart (d : Designator) (r : request.Request) (high : ℕ) (done : List Datum) (left : Arguments) (p : ℕ) (stack : List ℕ) : Type 0 where
     pub rows : shape_of l.scope d ≡ Row (suc high) (Word OfCharacter)
     pub room : length stack + 2 ≤ 16
     pub on : DataOn done stack []
@@ -542,7 +585,7 @@ module _ (ctx : Setting) where
     pub by : IsAt piece start (Liw high) last
     pub rest : LeftPart active r (map is_array done ++ true ∷ []) left (2 + length stack) last
 
-  pub record PassingPart (r : request.Request) (done : List Datum) (left : List Argument) (p : ℕ) (stack : List ℕ) : Type 0 where
+  pub record PassingPart (r : request.Request) (done : List Datum) (left : Arguments) (p : ℕ) (stack : List ℕ) : Type 0 where
     pub on : DataOn done stack []
     pub rest : LeftPart active r (map is_array done) left (length stack) p
 
@@ -584,6 +627,7 @@ module _ (ctx : Setting) where
   needs (ValueOf j) (Fill (RightOf o k u)) p stack a = part (RightPart j o k u p stack) (λ r. on (ValueOf (result_kind (is_relation o) k)) r.row.did.end r.below)
   needs (ValueOf j) (Fill (ShortOf d f)) p stack a = part (OperandPart active (λ e. Short d e f) (λ e p q r. r.middle) j p stack) (λ r. on (ValueOf OfTruth) r.did.end stack)
   needs (ValueOf j) (Fill (ApplyTo f)) p stack a = part (OperandPart active (Apply f) (λ e p q r. r.middle) j p stack) (λ r. on (ValueOf (function_kind f)) r.did.end stack)
+  needs (ValueOf j) (Fill (Returning k)) p stack a = part (ReturningPart active j k p stack) (λ r. on Quiet r.end [])
   needs (ValueOf j) (Fill (Pass (Requested q) k done left)) p stack a = part (PassPart j q k done left p stack) (λ r. on Quiet r.rest.serve.end [])
   needs (ValueOf j) (Fill (Choose first second)) p stack a = part (ValuePart active a (λ e. If e first second) (λ e p q r. r.middle) j p stack) (λ r. on Quiet r.did.end [])
   needs (ValueOf j) (Fill (Turn e body)) p stack a = part (TestPart active (While e body) a (λ p q r. r.middle) j p stack) (λ r. on Quiet r.did.end [])
@@ -614,10 +658,18 @@ module _ (ctx : Setting) where
     pub enter : IsAt b.piece (body_entry b.own) (Ent (framed b.layout.frame)) start
     pub then : rest Quiet start [] c (outside b)
 
-  -- the frame under this one goes on where the mark says, with its own FORs around
-  pub record Back (g : Frame) (rest : Reach) (c : ℕ) : Type 0 where
+  -- the frame under this one goes on where the mark says, with its own FORs around, where so many words are pushed
+  pub record Back (g : Frame) (rest : ℕ → Reach) (c : ℕ) : Type 0 where
     pub before : ℕ
     pub called : active.procedure ≡ suc before
+    pub resumed : Resumed
+    pub returns : result_here l.scope ≡ result_in resumed
+    pub under_saved : ℕ
+    pub pushed_is : g.pushed ≡ saved_words resumed + under_saved
+    pub saved : AreSaved h.shadow resumed (g.at + (g.layout.frame + under_saved))
+    pub after : ℕ
+    pub restore : RestoresAt g.piece resumed active.back after
+    pub within : after < length g.piece
     pub outer : Around
     pub under : g.at + loop_place outer.taken ≤ active.at
     pub mark : 4 ≤ g.layout.frame
@@ -625,13 +677,13 @@ module _ (ctx : Setting) where
     pub frame : h.shadow (active.at + 1) ≡ g.at
     pub place : h.shadow (active.at + 2) ≡ active.back
     pub module' : h.shadow (active.at + 3) ≡ g.number
-    pub then : rest Quiet active.back [] c outer
+    pub then : rest under_saved (resumed_mode resumed) after (resumed_stack resumed) c outer
 
   -- What is left behind the end of the running frame: the items of the frame under it, those of the next body, or none.
   abbrev pub Behind : List Item → (Setting → Reach) → ℕ → List Frame → List Frame → Type 0
-  Behind k rest c (g ∷ gs) bs = Back g (rest (with_frames ctx g gs bs)) c
+  Behind k rest c (g ∷ gs) bs = Back g (λ n. rest (with_frames ctx (record g { pushed = n }) gs bs)) c
   Behind k rest c [] (b ∷ bs) = NextBody b (rest (with_frames ctx b [] bs)) c
-  Behind k rest c [] [] = k ≡ []
+  Behind k rest c [] [] = (k ≡ []) × (active.procedure ≡ 0)
 
   -- the end of a WITH's statements: what is around them, and what is around the WITH. The address of its record stands in the frame.
   pub record HoldingWaits (place : Place) (rest : Setting → Reach) (t : Mode) (p : ℕ) (stack : List ℕ) (c : ℕ) (a : Around) : Type 0 where
@@ -678,32 +730,37 @@ module _ (ctx : Setting) where
 
   -- Procedure x, declared n levels out, is called: above the frame stand its mark and what is done of its arguments. Those that are left stand
   -- behind what is at hand, in no LOOP, and then comes the call.
-  pub record Pending (x n : ℕ) (done : List Datum) (next : List Shape) (left : List Argument) (rest : Setting → Reach) (p : ℕ) (c : ℕ) (a : Around) : Type 0 where
+  pub record Pending (x n : ℕ) (done : List Datum) (next : List Shape) (left : Arguments) (rest : Setting → Reach) (p : ℕ) (c : ℕ) (a : Around) : Type 0 where
     pub before : Setting
     pub shapes : List Shape
-    pub is : ctx ≡ pushing before (4 + all_words shapes)
+    pub resumed : Resumed
+    pub is : ctx ≡ pushing before (saved_words resumed + (4 + all_words shapes))
+    pub saved : AreSaved h.shadow resumed (top_of before.stack.frame)
     pub outer : Around
     pub around : a ≡ record { exit = None; taken = outer.taken }
     pub may : MayCall l.scope x n
-    pub takes : parameters_of (procedure_by l.scope.procedures x) ≡ shapes ++ (next ++ map (parameter_of l.scope) left)
-    pub room : 4 + (all_words shapes + (all_words next + given_words l.scope left)) ≤ words_of (loaded_at ctx.library ctx.loaded active.number) x + 17
-    pub link : IsLink active.display n (h.shadow (top_of before.stack.frame))
-    pub given : AllGiven shapes done (top_of before.stack.frame + 4)
+    pub returns : result_of (procedure_by l.scope.procedures x) ≡ result_in resumed
+    pub takes : parameters_of (procedure_by l.scope.procedures x) ≡ shapes ++ (next ++ parameters_given l.scope left)
+    pub room : saved_words resumed + (4 + (all_words shapes + (all_words next + given_words l.scope left))) ≤ words_of (loaded_at ctx.library ctx.loaded active.number) x + 17
+    pub link : IsLink active.display n (h.shadow (top_of before.stack.frame + saved_words resumed))
+    pub given : AllGiven shapes done (top_of before.stack.frame + saved_words resumed + 4)
     pub middle : ℕ
     pub arguments : GivenAt l piece left p middle
     pub end : ℕ
     pub call : IsAt piece middle (Cll x (framed (all_words shapes + (all_words next + given_words l.scope left)))) end
-    pub within : end < length piece
-    pub then : rest before Quiet end [] c outer
+    pub after : ℕ
+    pub restore : RestoresAt piece resumed end after
+    pub within : after < length piece
+    pub then : rest before (resumed_mode resumed) after (resumed_stack resumed) c outer
 
   -- the next argument is at hand, or the call
-  pub record PendingWaits (x n : ℕ) (done : List Datum) (left : List Argument) (rest : Setting → Reach) (t : Mode) (p : ℕ) (stack : List ℕ) (c : ℕ) (a : Around) : Type 0 where
+  pub record PendingWaits (x n : ℕ) (done : List Datum) (left : Arguments) (rest : Setting → Reach) (t : Mode) (p : ℕ) (stack : List ℕ) (c : ℕ) (a : Around) : Type 0 where
     pub quiet : t ≡ Quiet
     pub empty : stack ≡ []
     pub pending : Pending x n done [] left rest p c a
 
   -- the value of the next argument is to come, which is tested and goes to the frame to come
-  pub record ValueWaits (x n : ℕ) (k : Kind) (done : List Datum) (left : List Argument) (rest : Setting → Reach) (t : Mode) (p : ℕ) (stack : List ℕ) (c : ℕ) (a : Around) : Type 0 where
+  pub record ValueWaits (x n : ℕ) (k : Kind) (done : List Datum) (left : Arguments) (rest : Setting → Reach) (t : Mode) (p : ℕ) (stack : List ℕ) (c : ℕ) (a : Around) : Type 0 where
     pub from : Kind
     pub mode : t ≡ ValueOf from
     pub empty : stack ≡ []
@@ -715,7 +772,7 @@ module _ (ctx : Setting) where
     pub pending : Pending x n done (Word k ∷ []) left rest start c a
 
   -- its place is to come, whose address does
-  pub record PlaceWaits (x n : ℕ) (done : List Datum) (left : List Argument) (rest : Setting → Reach) (t : Mode) (p : ℕ) (stack : List ℕ) (c : ℕ) (a : Around) : Type 0 where
+  pub record PlaceWaits (x n : ℕ) (done : List Datum) (left : Arguments) (rest : Setting → Reach) (t : Mode) (p : ℕ) (stack : List ℕ) (c : ℕ) (a : Around) : Type 0 where
     pub of : Designator
     pub mode : t ≡ AtPlace of
     pub empty : stack ≡ []
@@ -726,7 +783,7 @@ module _ (ctx : Setting) where
     pub pending : Pending x n done (Address (shape_of l.scope of) ∷ []) left rest start c a
 
   -- the place of the next argument is to come, and all that lies there goes to the frame to come
-  pub record AllWaits (x n : ℕ) (done : List Datum) (left : List Argument) (rest : Setting → Reach) (t : Mode) (p : ℕ) (stack : List ℕ) (c : ℕ) (a : Around) : Type 0 where
+  pub record AllWaits (x n : ℕ) (done : List Datum) (left : Arguments) (rest : Setting → Reach) (t : Mode) (p : ℕ) (stack : List ℕ) (c : ℕ) (a : Around) : Type 0 where
     pub of : Designator
     pub mode : t ≡ AtPlace of
     pub empty : stack ≡ []
@@ -745,7 +802,7 @@ module _ (ctx : Setting) where
     pub free : active.layout.held ≡ []
     pub idle : active.pushed ≡ 0
     pub end : ℕ
-    pub leave : IsAt piece p Rtn end
+    pub leave : IsAt piece p (leave_code (result_here l.scope)) end
     pub behind : Behind k rest c ctx.stack.callers ctx.stack.bodies
 
   -- the row of an item, with what is left behind it
@@ -792,17 +849,18 @@ abbrev mutual
   value_stutter (Apply f a) = 2 + value_stutter a
   value_stutter (With s k a) = 1 + value_stutter s + value_stutter a
   value_stutter (WithSpan s k a b) = 1 + value_stutter s + (value_stutter a + value_stutter b)
+  value_stutter (Invoke p n k given) = 2 + passing_stutter given
 
-abbrev pub argument_stutter : Argument → ℕ
-argument_stutter (ByValue k e) = value_stutter e
-argument_stutter (OfPlace d) = place_stutter d
-argument_stutter (OfAll d) = place_stutter d
-argument_stutter (OfArray d high) = place_stutter d
-argument_stutter (OfText cs) = 0
+  pub argument_stutter : Argument → ℕ
+  argument_stutter (ByValue k e) = value_stutter e
+  argument_stutter (OfPlace d) = place_stutter d
+  argument_stutter (OfAll d) = place_stutter d
+  argument_stutter (OfArray d high) = place_stutter d
+  argument_stutter (OfText cs) = 0
 
-abbrev pub passing_stutter : List Argument → ℕ
-passing_stutter [] = 0
-passing_stutter (a ∷ given) = 1 + argument_stutter a + passing_stutter given
+  pub passing_stutter : Arguments → ℕ
+  passing_stutter NoMore = 0
+  passing_stutter (Also a given) = 1 + argument_stutter a + passing_stutter given
 
 abbrev mutual
   pub statement_stutter : Statement → ℕ
@@ -823,6 +881,7 @@ abbrev mutual
   statement_stutter Exit = 1
   statement_stutter Halt = 1
   statement_stutter Return = 1
+  statement_stutter (Answer k e) = 1 + value_stutter e
   statement_stutter (Call p n given) = 1 + passing_stutter given
   statement_stutter (For x k a b step body) = 1 + value_stutter a + value_stutter b
 
@@ -863,6 +922,7 @@ hole_stutter (MembersTo s k u) = 0
 hole_stutter (MemberBy out k e) = value_stutter e
 hole_stutter (MemberAt out p k) = 0
 hole_stutter (Pass r k done left) = passing_stutter left
+hole_stutter (Returning k) = 0
 hole_stutter (Choose a b) = 0
 hole_stutter (Turn c body) = 0
 hole_stutter (Again body c) = 0

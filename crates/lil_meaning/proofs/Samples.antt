@@ -1,10 +1,10 @@
 -- Samples of the definitions, computed.
 use Rattle.std.proofs.Common.{◌≡◌, ℕ, pos, negsuc, Bool, true, false, List, [], ◌∷◌, ◌++◌, Some, None, refl, ap}
 use Rattle.std.specs.Prelude.{◌&&◌, Ok, Err, codes}
-use Rattle.lil_base.specs.{Words.{Cardinal, Integer, between}, declared.{operator.TwoOp.TheVariants.{Equal, Less, AtLeast, Div, Mod}, request.Request.TheVariants.{Write, WriteCard, WriteInt, WriteOct, WriteHex}}}
+use Rattle.lil_base.specs.{Words.{Cardinal, Integer, between}, declared.{operator.TwoOp.TheVariants.{Equal, Less, AtLeast, Plus, Minus, Times, Div, Mod}, request.Request.TheVariants.{Write, WriteCard, WriteInt, WriteOct, WriteHex}}}
 use Rattle.lil_base.specs.declared.fault.TrapKind.TheVariants as trap
 use Rattle.lil_resolved.specs.Kinds.{Workspaces, Kind, OfWhole, OfTruth, OfCharacter, OfPointer, OfRange, Scalar, Number, Truth, Character, SetOf, ToObject, Nil, Nothing, within, value_with, Shape, Word, Row, Address, fields_of}
-use Rattle.lil_resolved.specs.Resolved.{Named, OfModule, OfLevel, Designator, Variable, Handed, Field, Element, Chr, Val, Expression, Constant, Taken, Two, ByValue, OfPlace, Statement, Assign, Change, Request, Loop, Halt, Return, Call, For, Statements, Empty, Then, Arms, NoElse, Else, Arm, Procedure, Resolved, in_order}
+use Rattle.lil_resolved.specs.Resolved.{Named, OfModule, OfLevel, Designator, Variable, Handed, Field, Element, Chr, Val, Expression, Constant, Taken, Two, Invoke, ByValue, OfPlace, OfAll, NoMore, given_in, Answer, If, Statement, Assign, Change, Request, Loop, Halt, Return, Call, For, Statements, Empty, Then, Arms, NoElse, Else, Arm, Procedure, Resolved, in_order}
 use Rattle.lil_meaning.specs.{Items.{Global, got, Do, Looping, Turns, End, Item, Perform, Ended, Trapped}, World.{World, Single, piece_of, Stream, Channel, OpenBy, Closed, all_closed}, Steps.{applied, function_value, chosen, turns, exited}, Runs.{src, state_of}, Need.chain_of}
 
 -- ---- the turns of FOR: up to the greatest number, none downward, down by two, and past the limit
@@ -84,7 +84,7 @@ abbrev program : List Statement → Resolved
 program statements = record { name = []; targets = []; names = (99 ∷ []) ∷ []; variables = Word kc ∷ []; procedures = []; body = in_order statements }
 
 abbrev writes_x : Statement
-writes_x = Request Write (ByValue OfCharacter (Constant OfCharacter (Character 120)) ∷ [])
+writes_x = Request Write (given_in (ByValue OfCharacter (Constant OfCharacter (Character 120)) ∷ []))
 
 a_character : (w : World) → (state_of (program (writes_x ∷ [])) w 5).world.screen ≡ w.screen ++ 120 ∷ []
 a_character w = refl
@@ -164,13 +164,13 @@ abbrev outer : Designator
 outer = Variable (OfLevel 1 0)
 
 abbrev procedure : List ℕ → List Statement → Procedure
-procedure around statements = record { name = 112 ∷ []; around = around; locals = Word kc ∷ []; parameters = 0; body = in_order statements }
+procedure around statements = record { name = 112 ∷ []; around = around; locals = Word kc ∷ []; parameters = 0; result = None; body = in_order statements }
 
 -- p adds its variable to c, changes it, calls q inside, which changes p's variable and has one of its own, and adds p's variable to c again
 abbrev nested : Resolved
-nested = record (program (Call 1 0 [] ∷ [])) {
+nested = record (program (Call 1 0 NoMore ∷ [])) {
   procedures =
-      procedure [] (Change false c kc (Taken own kc) ∷ Change false own kc (cardinal 3) ∷ Call 2 1 [] ∷ Change false c kc (Taken own kc) ∷ [])
+      procedure [] (Change false c kc (Taken own kc) ∷ Change false own kc (cardinal 3) ∷ Call 2 1 NoMore ∷ Change false c kc (Taken own kc) ∷ [])
       ∷ procedure (1 ∷ []) (Change false outer kc (cardinal 4) ∷ Change false own kc (cardinal 9) ∷ For (OfLevel 1 0) kc (cardinal 5) (cardinal 6) (pos 1) Empty ∷ Change false outer kc (Taken own kc) ∷ [])
       ∷ [];
 }
@@ -180,20 +180,20 @@ a_nested_call w = refl
 
 -- each of two calls begins with zero
 abbrev twice : Resolved
-twice = record (program (Call 1 0 [] ∷ Call 1 0 [] ∷ [])) { procedures = procedure [] (Change false own kc (cardinal 3) ∷ Change false c kc (Taken own kc) ∷ []) ∷ [] }
+twice = record (program (Call 1 0 NoMore ∷ Call 1 0 NoMore ∷ [])) { procedures = procedure [] (Change false own kc (cardinal 3) ∷ Change false c kc (Taken own kc) ∷ []) ∷ [] }
 
 two_calls : (w : World) → got (state_of twice (idle w) 40).cells (record { root = Global 1 0; path = [] }) ≡ Number (pos 6)
 two_calls w = refl
 
 -- ---- parameters: p(n: CARDINAL; VAR v: CARDINAL) adds n to v, and has a variable besides, which is zero
 abbrev adds : Procedure
-adds = record { name = 112 ∷ []; around = []; locals = Word kc ∷ Address (Word kc) ∷ Word kc ∷ []; parameters = 2; body = in_order (Change false (Handed 0 1) kc (Taken own kc) ∷ Change false (Handed 0 1) kc (Taken (Variable (OfLevel 0 2)) kc) ∷ Change false own kc (cardinal 90) ∷ []) }
+adds = record { name = 112 ∷ []; around = []; locals = Word kc ∷ Address (Word kc) ∷ Word kc ∷ []; parameters = 2; result = None; body = in_order (Change false (Handed 0 1) kc (Taken own kc) ∷ Change false (Handed 0 1) kc (Taken (Variable (OfLevel 0 2)) kc) ∷ Change false own kc (cardinal 90) ∷ []) }
 
 abbrev calls : List Statement → Resolved
 calls statements = record (program statements) { procedures = adds ∷ [] }
 
 abbrev adding : Expression → Designator → Statement
-adding e d = Call 1 0 (ByValue kc e ∷ OfPlace d ∷ [])
+adding e d = Call 1 0 (given_in (ByValue kc e ∷ OfPlace d ∷ []))
 
 -- a value is taken at its turn, and a place stays
 two_arguments : (w : World) → got (state_of (calls (Assign c kc (cardinal 7) ∷ adding (Taken c kc) c ∷ adding (Taken c kc) c ∷ [])) (idle w) 60).cells (record { root = Global 1 0; path = [] }) ≡ Number (pos 28)
@@ -205,13 +205,56 @@ from_left_to_right : (w : World)
 from_left_to_right w = refl
 
 -- an argument outside its parameter's kind is a trap of the caller
-outside_the_parameter : (w : World) → (state_of (calls (Call 1 0 (ByValue digit (cardinal 6) ∷ OfPlace c ∷ []) ∷ [])) (idle w) 40).phase ≡ Trapped (record { kind = trap.Range; «module» = []; procedure = None })
+outside_the_parameter : (w : World) → (state_of (calls (Call 1 0 (given_in (ByValue digit (cardinal 6) ∷ OfPlace c ∷ [])) ∷ [])) (idle w) 40).phase ≡ Trapped (record { kind = trap.Range; «module» = []; procedure = None })
 outside_the_parameter w = refl
 
 -- a call counts from its arguments on: its frame of seven words and 17 more, beside the body's four and 17
 a_pending_call : (w : World) → chain_of (calls (adding (cardinal 3) c ∷ []) ∷ []) (state_of (calls (adding (cardinal 3) c ∷ [])) (idle w) 1) ∷ chain_of (calls (adding (cardinal 3) c ∷ []) ∷ []) (state_of (calls (adding (cardinal 3) c ∷ [])) (idle w) 3) ∷ chain_of (calls (adding (cardinal 3) c ∷ []) ∷ []) (state_of (calls (adding (cardinal 3) c ∷ [])) (idle w) 6) ∷ []
     ≡ 45 ∷ 45 ∷ 45 ∷ []
 a_pending_call w = refl
+
+-- ---- an array by value: the call has its own
+abbrev numbers : Shape
+numbers = Row 3 (Word kc)
+
+abbrev third : Designator → Designator
+third d = Element d digit (cardinal 3)
+
+abbrev takes_all : Procedure
+takes_all = record { name = 112 ∷ []; around = []; locals = numbers ∷ []; parameters = 1; result = None; body = in_order (Assign (third own) kc (cardinal 9) ∷ Assign (Variable (OfModule 1)) kc (Taken (third own) kc) ∷ []) }
+
+abbrev hands_all : Resolved
+hands_all = record (table (Assign (third (Variable (OfModule 0))) kc (cardinal 2) ∷ Call 1 0 (given_in (OfAll (Variable (OfModule 0)) ∷ [])) ∷ [])) { variables = numbers ∷ Word kc ∷ []; procedures = takes_all ∷ [] }
+
+a_copy : (w : World) → (got (state_of hands_all (idle w) 60).cells (record { root = Global 1 1; path = [] }) ≡ Number (pos 9)) × (got (state_of hands_all (idle w) 60).cells (record { root = Global 1 0; path = 0 ∷ [] }) ≡ Number (pos 2))
+a_copy w = (refl, refl)
+
+-- ---- functions: f(n) is 1 where n is 0, else n * f(n - 1)
+abbrev factorial_of : Expression → Expression
+factorial_of e = Invoke 1 0 kc (given_in (ByValue kc e ∷ []))
+
+abbrev factorial : Procedure
+factorial = record { name = 102 ∷ []; around = []; locals = Word kc ∷ []; parameters = 1; result = Some kc; body = in_order (If (Two Equal kc (Taken own kc) (cardinal 0)) (in_order (Answer kc (cardinal 1) ∷ [])) Empty ∷ Answer kc (Two Times kc (Taken own kc) (factorial_of (Two Minus kc (Taken own kc) (cardinal 1)))) ∷ []) }
+
+a_recursive_function : (w : World) → got (state_of (record (program (Assign c kc (factorial_of (cardinal 4)) ∷ [])) { procedures = factorial ∷ [] }) (idle w) 200).cells (record { root = Global 1 0; path = [] }) ≡ Number (pos 24)
+a_recursive_function w = refl
+
+-- a left operand is taken before the function of the right one changes it
+abbrev changes : Procedure
+changes = record { name = 103 ∷ []; around = []; locals = []; parameters = 0; result = Some kc; body = in_order (Assign c kc (cardinal 9) ∷ Answer kc (cardinal 1) ∷ []) }
+
+a_left_operand_first : (w : World) → got (state_of (record (program (Assign c kc (cardinal 3) ∷ Assign c kc (Two Plus kc (Taken c kc) (Invoke 1 0 kc NoMore)) ∷ [])) { procedures = changes ∷ [] }) (idle w) 60).cells (record { root = Global 1 0; path = [] }) ≡ Number (pos 4)
+a_left_operand_first w = refl
+
+-- one that comes to its end has no value, and a value outside the function's kind is its trap too
+abbrev function_with : List Statement → Resolved
+function_with statements = record (program (Assign c kc (Invoke 1 0 digit NoMore) ∷ [])) { procedures = record changes { result = Some digit; body = in_order statements } ∷ [] }
+
+a_function_without_value : (w : World) → (state_of (function_with []) (idle w) 40).phase ≡ Trapped (record { kind = trap.Function; «module» = []; procedure = Some (103 ∷ []) })
+a_function_without_value w = refl
+
+a_value_outside : (w : World) → (state_of (function_with (Answer digit (cardinal 77) ∷ [])) (idle w) 40).phase ≡ Trapped (record { kind = trap.Range; «module» = []; procedure = Some (103 ∷ []) })
+a_value_outside w = refl
 
 -- ---- the end of a level closes its stream first, and then its channels, a step each; a channel of another level stays
 abbrev stream : Stream

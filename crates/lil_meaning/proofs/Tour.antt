@@ -1,7 +1,7 @@
 -- The program of docs/TOUR.md, step by step.
 use Rattle.std.proofs.Common.{◌≡◌, ℕ, pos, List, [], ◌∷◌, ◌++◌, map, refl}
 use Rattle.lil_base.specs.{Words.Cardinal, declared.{operator.TwoOp.TheVariants.{Plus, Times}, request.Request.TheVariants.Write}}
-use Rattle.lil_resolved.specs.{Kinds.{Kind, OfWhole, OfCharacter, Number, Character, Word}, Resolved.{OfModule, Designator, Variable, Chr, Expression, Constant, Taken, Two, Apply, Argument, ByValue, Assign, Request, Resolved, in_order}}
+use Rattle.lil_resolved.specs.{Kinds.{Kind, OfWhole, OfCharacter, Number, Character, Word}, Resolved.{OfModule, Designator, Variable, Chr, Expression, Constant, Taken, Two, Apply, Arguments, NoMore, given_in, ByValue, Assign, Request, Resolved, in_order}}
 use Rattle.lil_meaning.specs.{Items.{Global, Place, got, Source, Item, Scalars, Places, Get, StoreAt, SetTo, LeftOf, RightOf, ApplyTo, Requested, Pass, Do, Passing, End, Value, Evaluate, PlaceOf, Fill, Perform, Ended, Going}, World.World, Runs.state_of}
 
 abbrev k : Kind
@@ -22,8 +22,8 @@ times = Two Times k (Taken c k) (n 9)
 abbrev plus : Expression
 plus = Two Plus k times (n 2)
 
-abbrev given : List Argument
-given = ByValue OfCharacter (Apply Chr plus) ∷ []
+abbrev given : Arguments
+given = given_in (ByValue OfCharacter (Apply Chr plus) ∷ [])
 
 abbrev tour : Resolved
 tour = record { name = []; targets = []; names = []; variables = Word k ∷ []; procedures = []; body = in_order (Assign c k (n 7) ∷ Request Write given ∷ []) }
@@ -41,7 +41,7 @@ abbrev rest : List Item
 rest = Perform (Do (Request Write given)) ∷ end
 
 abbrev pass : List Item
-pass = Fill (Pass (Requested Write) OfCharacter [] []) ∷ end
+pass = Fill (Pass (Requested Write) OfCharacter [] NoMore) ∷ end
 
 abbrev chr : List Item
 chr = Fill (ApplyTo Chr) ∷ pass
@@ -78,7 +78,7 @@ steps : (w : World) → map (left w) (0 ∷ 1 ∷ 2 ∷ 3 ∷ 4 ∷ 5 ∷ 6 ∷ 
     (v 2 ∷ Fill (RightOf Plus k (Number (pos 63))) ∷ chr) ∷
     (v 65 ∷ chr) ∷
     (Value (Scalars (Character 65)) ∷ pass) ∷
-    (Perform (Passing (Requested Write) (Scalars (Character 65) ∷ []) []) ∷ end) ∷
+    (Perform (Passing (Requested Write) (Scalars (Character 65) ∷ []) NoMore) ∷ end) ∷
     (end) ∷
     ([]) ∷
     []

@@ -1,6 +1,6 @@
 -- Cells, which hold the scalars of variables, and the items that are left to do.
 use Rattle.std.specs.Prelude.{ℕ, zero, suc, ◌+◌, ◌==◌, Bool, false, ◌&&◌, List, [], ◌∷◌, ◌++◌, Option, Some, None, get_or, slice_get, option_and_then, if◌then◌else◌, ℤ}
-use Rattle.lil_resolved.specs.{Kinds.{Scalar, Character, Nothing, zero_of, Shape, Absent, Word, words, part_at, shape_at, Kind}, Resolved.{Resolved, Named, Designator, Function, Expression, Argument, Statement, Statements, Empty, Then, Arms}}
+use Rattle.lil_resolved.specs.{Kinds.{Scalar, Character, Nothing, zero_of, Shape, Absent, Word, words, part_at, shape_at, Kind}, Resolved.{Resolved, Named, Designator, Function, Expression, Argument, Arguments, Statement, Statements, Empty, Then, Arms}}
 use Rattle.lil_base.specs.declared.{fault.TrapAt.TrapAt, operator.{OneOp.OneOp, TwoOp.TwoOp}, request.Request.Request}
 use Rattle.lil_meaning.specs.World.{World}
 
@@ -192,13 +192,15 @@ pub data Hole : Type 0 where
   -- the number · joins or leaves the set at the place
   MemberAt : (out : Bool) (p : Place) (k : Kind) → Hole
   -- · is the next argument
-  Pass : (r : Receiver) (k : Kind) (done : List Datum) (left : List Argument) → Hole
+  Pass : (r : Receiver) (k : Kind) (done : List Datum) (left : Arguments) → Hole
   -- the place · is the next argument
-  PassPlace : (r : Receiver) (done : List Datum) (left : List Argument) → Hole
+  PassPlace : (r : Receiver) (done : List Datum) (left : Arguments) → Hole
   -- all that lies at the place · is the next argument
-  PassAll : (r : Receiver) (done : List Datum) (left : List Argument) → Hole
+  PassAll : (r : Receiver) (done : List Datum) (left : Arguments) → Hole
   -- the array ·, with this last element, is the next argument
-  PassArray : (r : Receiver) (high : ℕ) (done : List Datum) (left : List Argument) → Hole
+  PassArray : (r : Receiver) (high : ℕ) (done : List Datum) (left : Arguments) → Hole
+  -- RETURN · of a function, whose values are of a kind
+  Returning : (k : Kind) → Hole
   -- the first statements where · is TRUE, else the second
   Choose : (a b : Statements) → Hole
   -- the body and the whole WHILE again where · is TRUE
@@ -218,7 +220,7 @@ pub data Hole : Type 0 where
 pub data Task : Type 0 where
   Do : (s : Statement) → Task
   -- the arguments that are done, and those that are left
-  Passing : (r : Receiver) (done : List Datum) (left : List Argument) → Task
+  Passing : (r : Receiver) (done : List Datum) (left : Arguments) → Task
   -- the condition of a REPEAT, behind its body
   Until : (body : Statements) (c : Expression) → Task
   -- the end of a LOOP's body, which begins again

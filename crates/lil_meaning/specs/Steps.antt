@@ -7,8 +7,8 @@ use Rattle.lil_base.specs.declared.fault.TrapKind.TheVariants as trap
 use Rattle.lil_base.specs.declared.operator.OneOp.TheVariants as one
 use Rattle.lil_resolved.specs.Kinds.{Kind, OfWhole, OfTruth, OfCharacter, OfEnumeration, OfRange, is_set, is_pointer, nat_of, position, Scalar, Number, Truth, Character, SetOf, ToObject, ToWorkspace, Nil, Nothing, same_reference, within, scalar_word, value_with, ordinal_of, truth_number, truth_of, members_of, Shape, shape_at}
 use Rattle.lil_resolved.specs.Members.{same_members, included, is_in, united, without, shared_members, unshared, from_to}
-use Rattle.lil_resolved.specs.Resolved.{Named, OfModule, OfLevel, Designator, Variable, Handed, Held, Field, Element, Follow, Function, Abs, Cap, Chr, Odd, Ord, Val, Expression, Constant, Taken, One, Two, Short, Apply, With, WithSpan, Argument, ByValue, OfPlace, OfAll, OfArray, OfText, Label, Statement, Assign, Copy, Text, Change, Member, New, Allocate, Request, If, Case, While, Repeat, Loop, Exit, Halt, Return, Call, For, Inside, Statements, Arms, NoElse, Else, Arm, Procedure, Resolved, procedure_by, counted_as}
-use Rattle.lil_meaning.specs.Items.{Cells, with_locals, Global, Local, Slot, Here, At, Along, Place, under, part_of, object_place, stored, got, alone, text_under, zeros_under, targets_of, loaded_at, Datum, Scalars, Places, Wholes, Opens, Texts, Hole, Get, Part, IndexBy, IndexAt, Pointed, SetTo, StoreAt, CopyTo, CopyFrom, TextTo, NewAt, AllocateBy, AllocateAt, ChangeBy, ChangeAt, OneOf, LeftOf, RightOf, ShortOf, ApplyTo, WithMember, MemberOf, WithMembers, MembersFrom, MembersTo, MemberBy, MemberAt, Receiver, Requested, Called, Pass, PassPlace, PassAll, PassArray, Choose, Turn, Again, Pick, Hold, StartOf, LimitOf, Task, Do, Passing, Until, Looping, Turns, Holding, End, Item, Value, Evaluate, PlaceOf, Fill, Perform, doing, Activation, Parked, Level, Phase, Going, Closing, Ended, Trapped, Source}
+use Rattle.lil_resolved.specs.Resolved.{Named, OfModule, OfLevel, Designator, Variable, Handed, Held, Field, Element, Follow, Function, Abs, Cap, Chr, Odd, Ord, Val, Expression, Constant, Taken, One, Two, Short, Apply, With, WithSpan, Invoke, Argument, ByValue, OfPlace, OfAll, OfArray, OfText, Arguments, NoMore, Also, Label, Statement, Assign, Copy, Text, Change, Member, New, Allocate, Request, If, Case, While, Repeat, Loop, Exit, Halt, Return, Answer, Call, For, Inside, Statements, Arms, NoElse, Else, Arm, Procedure, Resolved, procedure_by, counted_as}
+use Rattle.lil_meaning.specs.Items.{Cells, with_locals, Global, Local, Slot, Here, At, Along, Place, under, part_of, object_place, stored, got, alone, text_under, zeros_under, targets_of, loaded_at, Datum, Scalars, Places, Wholes, Opens, Texts, Hole, Get, Part, IndexBy, IndexAt, Pointed, SetTo, StoreAt, CopyTo, CopyFrom, TextTo, NewAt, AllocateBy, AllocateAt, ChangeBy, ChangeAt, OneOf, LeftOf, RightOf, ShortOf, ApplyTo, WithMember, MemberOf, WithMembers, MembersFrom, MembersTo, MemberBy, MemberAt, Receiver, Requested, Called, Pass, PassPlace, PassAll, PassArray, Returning, Choose, Turn, Again, Pick, Hold, StartOf, LimitOf, Task, Do, Passing, Until, Looping, Turns, Holding, End, Item, Value, Evaluate, PlaceOf, Fill, Perform, doing, Activation, Parked, Level, Phase, Going, Closing, Ended, Trapped, Source}
 use Rattle.lil_meaning.specs.World.{World, Given, Single, Characters, serve, closing}
 
 -- the activation at hand: that of the nearest end
@@ -295,6 +295,7 @@ evaluated (Short d a b) k s = with_items s (Evaluate a ∷ Fill (ShortOf d b) �
 evaluated (Apply f a) k s = with_items s (Evaluate a ∷ Fill (ApplyTo f) ∷ k)
 evaluated (With e kind a) k s = with_items s (Evaluate e ∷ Fill (WithMember kind a) ∷ k)
 evaluated (WithSpan e kind a b) k s = with_items s (Evaluate e ∷ Fill (WithMembers kind a b) ∷ k)
+evaluated (Invoke p n kind given) k s = with_items s (Perform (Passing (Called p n) [] given) ∷ k)
 
 -- what INC and DEC make of two numbers
 abbrev pub changed : Bool → Whole → ℤ → ℤ → Result ℤ ArithFault
@@ -357,6 +358,7 @@ filled library (MembersFrom u kind b) v k s = if within kind v then with_items s
 filled library (MembersTo u kind low) v k s = if within kind v then with_items s (Value (Scalars (with_span u low v)) ∷ k) else trapped library s trap.Range
 filled library (MemberAt out p kind) v k s = if within kind v then record s { items = k; cells = stored s.cells p (alone (with_member out (got s.cells p) v)) } else trapped library s trap.Range
 filled library (Pass r kind done left) v k s = if within kind v then with_items s (Perform (Passing r (done ++ Scalars v ∷ []) left) ∷ k) else trapped library s trap.Range
+filled library (Returning kind) v k s = if within kind v then with_items s (Value (Scalars v) ∷ returned k) else trapped library s trap.Range
 filled library (Choose a b) v k s = with_items s (if truth_of v then doing a k else doing b k)
 filled library (Turn c body) v k s = with_items s (if truth_of v then doing body (Perform (Do (While c body)) ∷ k) else k)
 filled library (Again body c) v k s = with_items s (if truth_of v then k else Perform (Do (Repeat body c)) ∷ k)
@@ -455,6 +457,23 @@ called library p n done k s =
 abbrev pub activation_ended : List Item → Source → Source
 activation_ended k s = with_items s k
 
+-- the kind of what an activation's procedure returns; a body has none
+abbrev pub procedure_result : Option Procedure → Option Kind
+procedure_result None = None
+procedure_result (Some its) = its.result
+
+abbrev pub result_by : Option Resolved → ℕ → Option Kind
+result_by m p = procedure_result (procedure_by (procedures_of m) p)
+
+abbrev pub activation_result : List Resolved → List ℕ → Option Activation → Option Kind
+activation_result library loaded None = None
+activation_result library loaded (Some a) = result_by (loaded_at library loaded a.owner) a.procedure
+
+-- a function that comes to its end has no value
+abbrev pub end_reached : List Resolved → Option Kind → List Item → Source → Source
+end_reached library None k s = activation_ended k s
+end_reached library (Some kind) k s = trapped library s trap.Function
+
 abbrev pub did : List Resolved → Statement → List Item → Source → Source
 did library (Assign d kind e) k s = with_items s (PlaceOf d ∷ Fill (SetTo kind e) ∷ k)
 did library (Copy d from) k s = with_items s (PlaceOf d ∷ Fill (CopyTo from) ∷ k)
@@ -472,6 +491,7 @@ did library (Change down d kind e) k s = with_items s (PlaceOf d ∷ Fill (Chang
 did library (Member out d kind e) k s = with_items s (PlaceOf d ∷ Fill (MemberBy out kind e) ∷ k)
 did library Halt k s = trapped library s trap.Halted
 did library Return k s = activation_ended (returned k) s
+did library (Answer kind e) k s = with_items s (Evaluate e ∷ Fill (Returning kind) ∷ k)
 did library (Call p n given) k s = with_items s (Perform (Passing (Called p n) [] given) ∷ k)
 did library Exit k s = with_items s (exited k)
 did library (For x kind a b step body) k s = with_items s (Evaluate a ∷ Fill (StartOf x kind b step body) ∷ k)
@@ -495,7 +515,7 @@ given_of cells (Places p) = Characters []
 given_of cells (Wholes u) = Characters []
 
 -- the next argument
-abbrev pub passed : Receiver → List Datum → List Argument → Argument → List Item → Source → Source
+abbrev pub passed : Receiver → List Datum → Arguments → Argument → List Item → Source → Source
 passed r done left (ByValue kind e) k s = with_items s (Evaluate e ∷ Fill (Pass r kind done left) ∷ k)
 passed r done left (OfPlace d) k s = with_items s (PlaceOf d ∷ Fill (PassPlace r done left) ∷ k)
 passed r done left (OfAll d) k s = with_items s (PlaceOf d ∷ Fill (PassAll r done left) ∷ k)
@@ -515,9 +535,9 @@ abbrev pub received : List Resolved → Receiver → List Datum → List Item �
 received library (Requested r) done k s = served done (serve (level_of s) r (map (given_of s.cells) done) s.world) k s
 received library (Called p n) done k s = called library p n done k s
 
-abbrev pub passed_on : List Resolved → Receiver → List Datum → List Argument → List Item → Source → Source
-passed_on library r done [] k s = received library r done k s
-passed_on library r done (a ∷ left) k s = passed r done left a k s
+abbrev pub passed_on : List Resolved → Receiver → List Datum → Arguments → List Item → Source → Source
+passed_on library r done NoMore k s = received library r done k s
+passed_on library r done (Also a left) k s = passed r done left a k s
 
 abbrev pub performed : List Resolved → Task → List Item → Source → Source
 performed library (Do t) k s = did library t k s
@@ -526,7 +546,7 @@ performed library (Until body c) k s = with_items s (Evaluate c ∷ Fill (Again 
 performed library (Looping body) k s = with_items s (doing body (Perform (Looping body) ∷ k))
 performed library (Turns x kind z step left body) k s = turned_on library x kind z step left body k s
 performed library (Holding p) k s = with_items s k
-performed library (End a) k s = activation_ended k s
+performed library (End a) k s = end_reached library (activation_result library s.loaded (slice_get s.activations a)) k s
 
 -- a value goes into the next item
 abbrev pub given : List Resolved → Datum → Item → List Item → Source → Source

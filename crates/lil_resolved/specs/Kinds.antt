@@ -351,11 +351,12 @@ led_to (Address t) = t
 led_to _ = Absent
 
 -- what names elsewhere need of a procedure: those around it by their numbers, the innermost first, the shapes of its variables, its parameters
--- first, and how many of them are parameters
+-- first, how many of them are parameters, and the kind of what it returns
 pub record Outline : Type 0 where
   pub around : List ℕ
   pub locals : List Shape
   pub parameters : ℕ
+  pub result : Option Kind
 
 -- What the names of statements reach: what pointers point to, by the numbers of their types, the module's variables, and the records of the
 -- WITHs around, the innermost first; the procedures of the module, from number 1; and the procedure at hand with those around it by their
@@ -396,6 +397,10 @@ abbrev pub parameters_of : Option Outline → List Shape
 parameters_of None = []
 parameters_of (Some p) = take p.parameters p.locals
 
+abbrev pub result_of : Option Outline → Option Kind
+result_of None = None
+result_of (Some p) = p.result
+
 abbrev pub locals_of : Option Outline → List Shape
 locals_of None = []
 locals_of (Some p) = p.locals
@@ -407,3 +412,7 @@ locals_at ts n = locals_of (option_and_then (procedure_by ts.procedures) (slice_
 -- and those of its parameters
 abbrev pub parameters_at : Scope → ℕ → List Shape
 parameters_at ts n = parameters_of (option_and_then (procedure_by ts.procedures) (slice_get ts.chain n))
+
+-- the kind of what the procedure at hand returns
+abbrev pub result_here : Scope → Option Kind
+result_here ts = result_of (option_and_then (procedure_by ts.procedures) (slice_get ts.chain 0))

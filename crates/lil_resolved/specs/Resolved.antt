@@ -51,15 +51,27 @@ mutual
     With : (s : Expression) (k : Kind) (a : Expression) → Expression
     -- a set, and the numbers of a kind from a to b in it
     WithSpan : (s : Expression) (k : Kind) (a b : Expression) → Expression
+    -- what a procedure returns, of a kind: it is called by its number, and is declared so many levels out
+    Invoke : (p n : ℕ) (k : Kind) (given : Arguments) → Expression
 
--- an argument: a value, with its parameter's kind; a place for a VAR parameter; all that lies at a place, for an array or a record by value;
--- or for an open array of characters an array, with the number of its last element, or a string
-pub data Argument : Type 0 where
-  ByValue : (k : Kind) (e : Expression) → Argument
-  OfPlace : (d : Designator) → Argument
-  OfAll : (d : Designator) → Argument
-  OfArray : (d : Designator) (high : ℕ) → Argument
-  OfText : (cs : List ℕ) → Argument
+  -- an argument: a value, with its parameter's kind; a place for a VAR parameter; all that lies at a place, for an array or a record by value;
+  -- or for an open array of characters an array, with the number of its last element, or a string
+  pub data Argument : Type 0 where
+    ByValue : (k : Kind) (e : Expression) → Argument
+    OfPlace : (d : Designator) → Argument
+    OfAll : (d : Designator) → Argument
+    OfArray : (d : Designator) (high : ℕ) → Argument
+    OfText : (cs : List ℕ) → Argument
+
+  -- the arguments of a call, from left to right
+  pub data Arguments : Type 0 where
+    NoMore : Arguments
+    Also : (a : Argument) (rest : Arguments) → Arguments
+
+-- arguments in a list, in its order
+abbrev pub given_in : List Argument → Arguments
+given_in [] = NoMore
+given_in (a ∷ given) = Also a (given_in given)
 
 -- the labels from one number to another
 pub record Label : Type 0 where
@@ -83,7 +95,7 @@ mutual
     -- ALLOCATE(d, e) has the address at d lead to a new workspace of e words, DEALLOCATE(d, e) makes it NIL
     Allocate : (back : Bool) (d : Designator) (e : Expression) → Statement
     -- a call of the resident procedure with this request
-    Request : (r : request.Request) (given : List Argument) → Statement
+    Request : (r : request.Request) (given : Arguments) → Statement
     If : (c : Expression) (a b : Statements) → Statement
     Case : (e : Expression) (arms : Arms) → Statement
     While : (c : Expression) (body : Statements) → Statement
@@ -92,10 +104,12 @@ mutual
     Exit : Statement
     -- HALT
     Halt : Statement
-    -- RETURN in a body
+    -- RETURN
     Return : Statement
+    -- RETURN of a value of a kind
+    Answer : (k : Kind) (e : Expression) → Statement
     -- a call of a procedure, by its number, which is declared so many levels out; those of the module are 0 levels out
-    Call : (p n : ℕ) (given : List Argument) → Statement
+    Call : (p n : ℕ) (given : Arguments) → Statement
     -- FOR v := a TO b BY step DO body END, with a variable of a kind
     For : (v : Named) (k : Kind) (a b : Expression) (step : ℤ) (body : Statements) → Statement
     -- WITH d DO body END
@@ -118,16 +132,17 @@ in_order [] = Empty
 in_order (s ∷ ss) = Then s (in_order ss)
 
 -- a procedure: its name, the procedures around it by their numbers, the innermost first, the shapes of its variables, its parameters first,
--- how many of them are parameters, and its statements
+-- how many of them are parameters, the kind of what it returns, and its statements
 pub record Procedure : Type 0 where
   pub name : List ℕ
   pub around : List ℕ
   pub locals : List Shape
   pub parameters : ℕ
+  pub result : Option Kind
   pub body : Statements
 
 abbrev pub outline_of : Procedure → Outline
-outline_of p = record { around = p.around; locals = p.locals; parameters = p.parameters }
+outline_of p = record { around = p.around; locals = p.locals; parameters = p.parameters; result = p.result }
 
 pub record Resolved : Type 0 where
   pub name : List ℕ
@@ -194,6 +209,7 @@ kind_of (Short d a b) = OfTruth
 kind_of (Apply f a) = function_kind f
 kind_of (With s k a) = OfSet
 kind_of (WithSpan s k a b) = OfSet
+kind_of (Invoke p n k given) = base_of k
 
 -- the shape of a variable, if there is one
 abbrev pub variable_at : Scope → Named → Option Shape

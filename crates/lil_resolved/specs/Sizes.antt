@@ -1,7 +1,7 @@
 -- How much a module takes: words of the expression stack, of frames and of strings, and the bytes of its code; and modules that are small.
-use Rattle.std.specs.Prelude.{ℕ, zero, suc, List, [], ◌∷◌, ◌++◌, ◌+◌, max, Bool, true, false, ◌*◌, ◌≤◌, ℤ, length, if◌then◌else◌}
+use Rattle.std.specs.Prelude.{ℕ, zero, suc, List, [], ◌∷◌, ◌++◌, Option, Some, None, ◌+◌, max, Bool, true, false, ◌*◌, ◌≤◌, ℤ, length, if◌then◌else◌}
 use Rattle.std.specs.List.{flat_map}
-use Rattle.lil_resolved.specs.Resolved.{Named, OfModule, OfLevel, Argument, ByValue, OfPlace, OfAll, OfArray, OfText, Statement, Assign, Copy, Text, Change, Member, New, Allocate, Request, If, Case, While, Repeat, Loop, Exit, Halt, Return, Call, For, Inside, Statements, Empty, Then, Arms, NoElse, Else, Arm, Procedure, Resolved, Designator, Variable, Handed, Held, Field, Element, Follow, Function, Odd, Expression, Constant, Taken, One, Two, Short, Apply, With, WithSpan, Abs, Cap, Chr, Ord, Val, kind_of, counted_as}
+use Rattle.lil_resolved.specs.Resolved.{Named, OfModule, OfLevel, Argument, ByValue, OfPlace, OfAll, OfArray, OfText, Arguments, NoMore, Also, Statement, Assign, Copy, Text, Change, Member, New, Allocate, Request, If, Case, While, Repeat, Loop, Exit, Halt, Return, Answer, Call, For, Inside, Statements, Empty, Then, Arms, NoElse, Else, Arm, Procedure, Resolved, Designator, Variable, Handed, Held, Field, Element, Follow, Function, Odd, Expression, Constant, Taken, One, Two, Short, Apply, With, WithSpan, Invoke, Abs, Cap, Chr, Ord, Val, kind_of, counted_as}
 use Rattle.lil_resolved.specs.Kinds.{Kind, OfWhole, OfCharacter, base_of, compared_as, covers, outside_turns, Shape, all_words}
 use Rattle.lil_base.specs.{declared.operator.{OneOp.OneOp, TwoOp.{TwoOp, TheVariants.{Greater, AtLeast}}}, Words.{Cardinal, Integer}}
 use Rattle.lil_base.specs.declared.operator.OneOp.TheVariants as one
@@ -20,8 +20,9 @@ argument_strings (OfAll d) = []
 argument_strings (OfArray d high) = []
 argument_strings (OfText cs) = words_of cs
 
-abbrev pub arguments_strings : List Argument → List ℕ
-arguments_strings given = flat_map argument_strings given
+abbrev pub arguments_strings : Arguments → List ℕ
+arguments_strings NoMore = []
+arguments_strings (Also a given) = argument_strings a ++ arguments_strings given
 
 abbrev mutual
   pub statement_strings : Statement → List ℕ
@@ -41,7 +42,8 @@ abbrev mutual
   statement_strings Exit = []
   statement_strings Halt = []
   statement_strings Return = []
-  statement_strings (Call p n given) = arguments_strings given
+  statement_strings (Answer k e) = []
+  statement_strings (Call p n given) = []
   statement_strings (For v k a b step body) = body_strings body
   statement_strings (Inside d body) = body_strings body
 
@@ -90,6 +92,8 @@ abbrev mutual
   depth (Apply f a) = max (depth a) (function_depth f)
   depth (With s k a) = max (depth s) (max 3 (1 + depth a))
   depth (WithSpan s k a b) = max (depth s) (max (1 + depth a) (2 + depth b))
+  -- what stood on the expression stack is saved until it has returned
+  depth (Invoke p n k given) = 1
 
 -- how many words of the frame the FORs and the WITHs in statements take: three each FOR, and one each WITH
 abbrev mutual
@@ -110,6 +114,7 @@ abbrev mutual
   statement_words Exit = 0
   statement_words Halt = 0
   statement_words Return = 0
+  statement_words (Answer k e) = 0
   statement_words (Call p n given) = 0
   statement_words (For v k a b step body) = 3 + body_words body
   statement_words (Inside d body) = 1 + body_words body
@@ -223,7 +228,20 @@ abbrev pub handed_size : ℕ → ℕ
 handed_size zero = 3
 handed_size (suc n) = 4
 
--- how many bytes the code of a place and of an expression takes
+-- how many words an argument takes on the expression stack: of what goes by its address, one
+abbrev pub argument_words : Argument → ℕ
+argument_words (ByValue k e) = 1
+argument_words (OfPlace d) = 1
+argument_words (OfAll d) = 1
+argument_words (OfArray d high) = 2
+argument_words (OfText cs) = 2
+
+-- how many bytes it takes to bring its words to the frame that a call begins
+abbrev pub push_size : Argument → ℕ
+push_size (OfAll d) = 3
+push_size a = argument_words a
+
+-- how many bytes the code of a place, of an expression, and of arguments that go to a frame takes
 abbrev mutual
   pub place_size : Designator → ℕ
   place_size (Variable v) = 0
@@ -242,38 +260,27 @@ abbrev mutual
   size (Apply f a) = size a + function_size f (kind_of a)
   size (With s k a) = size s + size a + test_size k (kind_of a) + 2
   size (WithSpan s k a b) = size s + size a + test_size k (kind_of a) + size b + test_size k (kind_of b) + 1
+  size (Invoke p n k given) = 9 + pushed_size given
+
+  pub argument_size : Argument → ℕ
+  argument_size (ByValue k e) = size e + test_size k (kind_of e)
+  argument_size (OfPlace d) = place_size d + address_size (form_of d)
+  argument_size (OfAll d) = place_size d + address_size (form_of d)
+  argument_size (OfArray d high) = place_size d + address_size (form_of d) + 3
+  argument_size (OfText cs) = 6
+
+  pub pushed_size : Arguments → ℕ
+  pushed_size NoMore = 0
+  pushed_size (Also a given) = argument_size a + push_size a + pushed_size given
+
+-- those of a request stay on the expression stack
+abbrev pub arguments_size : Arguments → ℕ
+arguments_size NoMore = 0
+arguments_size (Also a given) = argument_size a + arguments_size given
 
 -- the code of a place that is ready for a store
 abbrev pub target_size : Designator → ℕ
 target_size d = place_size d + ready_size (form_of d)
-
--- how many words an argument takes on the expression stack: of what goes by its address, one
-abbrev pub argument_words : Argument → ℕ
-argument_words (ByValue k e) = 1
-argument_words (OfPlace d) = 1
-argument_words (OfAll d) = 1
-argument_words (OfArray d high) = 2
-argument_words (OfText cs) = 2
-
-abbrev pub argument_size : Argument → ℕ
-argument_size (ByValue k e) = size e + test_size k (kind_of e)
-argument_size (OfPlace d) = place_size d + address_size (form_of d)
-argument_size (OfAll d) = place_size d + address_size (form_of d)
-argument_size (OfArray d high) = place_size d + address_size (form_of d) + 3
-argument_size (OfText cs) = 6
-
-abbrev pub arguments_size : List Argument → ℕ
-arguments_size [] = 0
-arguments_size (a ∷ given) = argument_size a + arguments_size given
-
--- how many bytes it takes to bring its words to the frame that a call begins
-abbrev pub push_size : Argument → ℕ
-push_size (OfAll d) = 3
-push_size a = argument_words a
-
-abbrev pub pushed_size : List Argument → ℕ
-pushed_size [] = 0
-pushed_size (a ∷ given) = argument_size a + push_size a + pushed_size given
 
 -- the code of ALLOCATE and DEALLOCATE behind the address and the number of words
 abbrev pub allocate_size : Bool → ℕ
@@ -300,6 +307,7 @@ abbrev mutual
   statement_size Exit = 3
   statement_size Halt = 2
   statement_size Return = 1
+  statement_size (Answer k e) = size e + test_size k (kind_of e) + 1
   statement_size (Call p n given) = 6 + pushed_size given
   statement_size (For v k a b step body) = size a + size b + align_size k (kind_of a) step + 12 + test_size k (base_of k) + store_size (variable_form v) + body_size body + 5
   statement_size (Inside d body) = place_size d + address_size (form_of d) + 3 + body_size body
@@ -314,16 +322,20 @@ abbrev mutual
   arms_size (Else body) = body_size body + 3
   arms_size (Arm labels body rest) = body_size body + 3 + 6 * length labels + arms_size rest
 
--- with the instructions that enter and leave a body
-abbrev pub framed_size : Statements → ℕ
-framed_size ss = 4 + body_size ss
+-- with the instructions that enter and leave a body or a procedure, of which a function traps at its end
+abbrev pub leave_size : Option Kind → ℕ
+leave_size None = 1
+leave_size (Some k) = 2
+
+abbrev pub framed_size : Option Kind → Statements → ℕ
+framed_size result ss = 3 + body_size ss + leave_size result
 
 abbrev pub procedures_size : List Procedure → ℕ
 procedures_size [] = 0
-procedures_size (p ∷ ps) = framed_size p.body + procedures_size ps
+procedures_size (p ∷ ps) = framed_size p.result p.body + procedures_size ps
 
 abbrev pub code_size : Resolved → ℕ
-code_size m = framed_size m.body + procedures_size m.procedures
+code_size m = framed_size None m.body + procedures_size m.procedures
 
 -- code, and the words of strings behind the variables
 pub record IsSmall (m : Resolved) (strings : List ℕ) : Type 0 where

@@ -1,13 +1,13 @@
 -- Sound resolved modules: places have the kinds that their uses say, indexes choose from all elements, operands have their operator's kind, and constants fit theirs.
-use Rattle.std.specs.Prelude.{◌≡◌, ◌≢◌, ℕ, suc, ◌≤◌, nat_le, length, ℤ, pos, negsuc, ◌≤ℤ◌, Bool, true, false, ◌&&◌, ◌||◌, List, [], ◌∷◌, map, Some, slice_get}
+use Rattle.std.specs.Prelude.{◌≡◌, ◌≢◌, ℕ, suc, ◌≤◌, nat_le, length, ℤ, pos, negsuc, ◌≤ℤ◌, Bool, true, false, ◌&&◌, ◌||◌, List, [], ◌∷◌, map, Some, None, slice_get}
 use Rattle.std.specs.List.{list_all}
 use Rattle.lil_base.specs.{Words.{Cardinal, Integer}, declared.operator.{OneOp.OneOp, TwoOp.{TwoOp, TheVariants.{Equal, Unequal, Less, AtMost, Greater, AtLeast, In, Plus, Minus, Or, Times, Slash, Div, Mod, And}}}}
 use Rattle.lil_base.specs.declared.operator.OneOp.TheVariants as one
 use Rattle.lil_base.specs.declared.request.Request as request
 use Rattle.lil_base.specs.declared.request.Request.TheVariants as r
 pub use Rattle.lil_resolved.specs.Kinds.{is_base, is_ordinal, is_set, is_whole, is_plain, is_element, alike, takes_value, stores_value}
-use Rattle.lil_resolved.specs.Kinds.{Objects, Workspaces, Kind, OfWhole, OfTruth, OfCharacter, OfSet, OfPointer, base_of, numbers, within, is_literal, scalar_of, ordinal_of, Shape, Word, Row, Address, Opened, Scope, with_held, MayCall, parameters_of, parameters_at, shape_at, is_there, count_of}
-use Rattle.lil_resolved.specs.Resolved.{Named, variable_at, Designator, Variable, Handed, Held, Field, Element, Follow, Function, Abs, Cap, Chr, Odd, Ord, Val, Expression, Constant, Taken, One, Two, Short, Apply, With, WithSpan, Label, Argument, ByValue, OfPlace, OfAll, OfArray, OfText, Statement, Assign, Copy, Text, Change, Member, New, Allocate, Request, If, Case, While, Repeat, Loop, Exit, Halt, Return, Call, For, Inside, Statements, Empty, Then, Arms, NoElse, Else, Arm, Procedure, Resolved, procedure_by, scope_in, kind_of, right_kind, counted_as, shape_of}
+use Rattle.lil_resolved.specs.Kinds.{Objects, Workspaces, Kind, OfWhole, OfTruth, OfCharacter, OfSet, OfPointer, base_of, numbers, within, is_literal, scalar_of, ordinal_of, Shape, Word, Row, Address, Opened, Scope, with_held, MayCall, result_of, result_here, parameters_of, parameters_at, shape_at, is_there, count_of}
+use Rattle.lil_resolved.specs.Resolved.{Named, variable_at, Designator, Variable, Handed, Held, Field, Element, Follow, Function, Abs, Cap, Chr, Odd, Ord, Val, Expression, Constant, Taken, One, Two, Short, Apply, With, WithSpan, Invoke, Label, Argument, ByValue, OfPlace, OfAll, OfArray, OfText, Arguments, NoMore, Also, Statement, Assign, Copy, Text, Change, Member, New, Allocate, Request, If, Case, While, Repeat, Loop, Exit, Halt, Return, Answer, Call, For, Inside, Statements, Empty, Then, Arms, NoElse, Else, Arm, Procedure, Resolved, procedure_by, scope_in, kind_of, right_kind, counted_as, shape_of}
 use Rattle.lil_resolved.specs.Sizes.{place_depth, depth}
 
 -- an operator takes operands of this kind, and IN a left one
@@ -57,7 +57,39 @@ pub record IsScalar (ts : Scope) (d : Designator) (k : Kind) : Type 0 where
   pub shape : shape_of ts d ≡ Word k
   pub base : is_base (base_of k) ≡ true
 
--- an index chooses from all elements, operands have their operator's kind, constants fit theirs, and the record of a WITH is one around
+-- what the parameter of an argument holds
+abbrev pub parameter_of : Scope → Argument → Shape
+parameter_of ts (ByValue k e) = Word k
+parameter_of ts (OfPlace d) = Address (shape_of ts d)
+parameter_of ts (OfAll d) = shape_of ts d
+parameter_of ts (OfArray d high) = Opened (Word OfCharacter)
+parameter_of ts (OfText cs) = Opened (Word OfCharacter)
+
+abbrev pub parameters_given : Scope → Arguments → List Shape
+parameters_given ts NoMore = []
+parameters_given ts (Also a given) = parameter_of ts a ∷ parameters_given ts given
+
+-- an argument that has one word on the expression stack, as those of calls do
+abbrev pub IsSingle : Argument → Type 0
+IsSingle (ByValue k e) = Unit {0}
+IsSingle (OfPlace d) = Unit {0}
+IsSingle (OfAll d) = Unit {0}
+IsSingle (OfArray d high) = ⊥
+IsSingle (OfText cs) = ⊥
+
+abbrev pub AreSingle : Arguments → Type 0
+AreSingle NoMore = Unit {0}
+AreSingle (Also a given) = IsSingle a × AreSingle given
+
+-- what a string holds are characters
+abbrev pub is_character : ℕ → Bool
+is_character c = nat_le c 255
+
+abbrev pub is_text : List ℕ → Bool
+is_text cs = list_all is_character cs
+
+-- An index chooses from all elements, operands have their operator's kind, constants fit theirs, and the record of a WITH is one around.
+-- What an argument is stands alone: the code of what stands alone takes up to 13 words of the expression stack.
 abbrev mutual
   pub IsSoundPlace : Scope → Designator → Type 0
   IsSoundPlace ts (Variable v) = Unit {0}
@@ -77,6 +109,19 @@ abbrev mutual
   IsSoundExpression ts (With s k a) = (kind_of s ≡ OfSet) × IsSoundExpression ts s × (is_element k ≡ true) × (takes_value k (kind_of a) ≡ true) × IsSoundExpression ts a
   IsSoundExpression ts (WithSpan s k a b) =
       (kind_of s ≡ OfSet) × IsSoundExpression ts s × (is_element k ≡ true) × (takes_value k (kind_of a) ≡ true) × (takes_value k (kind_of b) ≡ true) × IsSoundExpression ts a × IsSoundExpression ts b
+  IsSoundExpression ts (Invoke p n k given) =
+      MayCall ts p n × (result_of (procedure_by ts.procedures p) ≡ Some k) × (parameters_of (procedure_by ts.procedures p) ≡ parameters_given ts given) × AreSoundArguments ts given × AreSingle given
+
+  pub IsSoundArgument : Scope → Argument → Type 0
+  IsSoundArgument ts (ByValue k e) = (stores_value k (kind_of e) ≡ true) × (depth e ≤ 13) × IsSoundExpression ts e
+  IsSoundArgument ts (OfPlace d) = (is_there (shape_of ts d) ≡ true) × (place_depth d ≤ 13) × IsSoundPlace ts d
+  IsSoundArgument ts (OfAll d) = (is_there (shape_of ts d) ≡ true) × (place_depth d ≤ 13) × IsSoundPlace ts d
+  IsSoundArgument ts (OfArray d high) = (shape_of ts d ≡ Row (suc high) (Word OfCharacter)) × (place_depth d ≤ 13) × IsSoundPlace ts d
+  IsSoundArgument ts (OfText cs) = is_text cs ≡ true
+
+  pub AreSoundArguments : Scope → Arguments → Type 0
+  AreSoundArguments ts NoMore = Unit {0}
+  AreSoundArguments ts (Also a given) = IsSoundArgument ts a × AreSoundArguments ts given
 
 -- The code of what stands alone takes up to 13 words of the expression stack: that of a text has a depth of at most 12, and ODD and an
 -- element of a set take one word more than the texts' rule says.
@@ -96,13 +141,6 @@ pub record IsSoundCopy (ts : Scope) (d from : Designator) : Type 0 where
   pub shallow : place_depth d ≤ 13
   pub source_shallow : place_depth from ≤ 13
 
--- what a string holds are characters
-abbrev pub is_character : ℕ → Bool
-is_character c = nat_le c 255
-
-abbrev pub is_text : List ℕ → Bool
-is_text cs = list_all is_character cs
-
 -- an array of at least as many characters as a string has
 pub record IsSoundText (ts : Scope) (d : Designator) (cs : List ℕ) : Type 0 where
   pub count : ℕ
@@ -112,13 +150,7 @@ pub record IsSoundText (ts : Scope) (d : Designator) (cs : List ℕ) : Type 0 wh
   pub place : IsSoundPlace ts d
   pub shallow : place_depth d ≤ 13
 
--- an array of characters with this last element
-pub record IsSoundArray (ts : Scope) (d : Designator) (high : ℕ) : Type 0 where
-  pub shape : shape_of ts d ≡ Row (suc high) (Word OfCharacter)
-  pub place : IsSoundPlace ts d
-  pub shallow : place_depth d ≤ 13
-
--- a place that is fixed: that of the record of a WITH, or of an argument for a VAR parameter
+-- a place that is fixed: that of the record of a WITH
 pub record IsSoundHeld (ts : Scope) (d : Designator) : Type 0 where
   pub there : is_there (shape_of ts d) ≡ true
   pub place : IsSoundPlace ts d
@@ -175,37 +207,6 @@ request_parameters r.WriteInt = Word (OfWhole Integer) ∷ Word (OfWhole Cardina
 request_parameters r.WriteOct = Word (OfWhole Cardinal) ∷ Word (OfWhole Cardinal) ∷ []
 request_parameters r.WriteHex = Word (OfWhole Cardinal) ∷ Word (OfWhole Cardinal) ∷ []
 
-abbrev pub IsSoundArgument : Scope → Argument → Type 0
-IsSoundArgument ts (ByValue k e) = IsSoundStored ts e k
-IsSoundArgument ts (OfPlace d) = IsSoundHeld ts d
-IsSoundArgument ts (OfAll d) = IsSoundHeld ts d
-IsSoundArgument ts (OfArray d high) = IsSoundArray ts d high
-IsSoundArgument ts (OfText cs) = is_text cs ≡ true
-
-abbrev pub AreSoundArguments : Scope → List Argument → Type 0
-AreSoundArguments ts [] = Unit {0}
-AreSoundArguments ts (a ∷ given) = IsSoundArgument ts a × AreSoundArguments ts given
-
--- what the parameter of an argument holds
-abbrev pub parameter_of : Scope → Argument → Shape
-parameter_of ts (ByValue k e) = Word k
-parameter_of ts (OfPlace d) = Address (shape_of ts d)
-parameter_of ts (OfAll d) = shape_of ts d
-parameter_of ts (OfArray d high) = Opened (Word OfCharacter)
-parameter_of ts (OfText cs) = Opened (Word OfCharacter)
-
--- an argument that has one word on the expression stack, as those of calls do
-abbrev pub IsSingle : Argument → Type 0
-IsSingle (ByValue k e) = Unit {0}
-IsSingle (OfPlace d) = Unit {0}
-IsSingle (OfAll d) = Unit {0}
-IsSingle (OfArray d high) = ⊥
-IsSingle (OfText cs) = ⊥
-
-abbrev pub AreSingle : List Argument → Type 0
-AreSingle [] = Unit {0}
-AreSingle (a ∷ given) = IsSingle a × AreSingle given
-
 -- an argument of a request: a value, or an open array
 abbrev pub IsServed : Argument → Type 0
 IsServed (ByValue k e) = Unit {0}
@@ -214,13 +215,13 @@ IsServed (OfAll d) = ⊥
 IsServed (OfArray d high) = Unit {0}
 IsServed (OfText cs) = Unit {0}
 
-abbrev pub AreServed : List Argument → Type 0
-AreServed [] = Unit {0}
-AreServed (a ∷ given) = IsServed a × AreServed given
+abbrev pub AreServed : Arguments → Type 0
+AreServed NoMore = Unit {0}
+AreServed (Also a given) = IsServed a × AreServed given
 
 -- arguments are those of parameters which hold this
-pub record IsGiven (ts : Scope) (parameters : List Shape) (given : List Argument) : Type 0 where
-  pub takes : parameters ≡ map (parameter_of ts) given
+pub record IsGiven (ts : Scope) (parameters : List Shape) (given : Arguments) : Type 0 where
+  pub takes : parameters ≡ parameters_given ts given
   pub sound : AreSoundArguments ts given
 
 -- statements inside a LOOP or not
@@ -241,8 +242,9 @@ abbrev mutual
   IsSoundStatement ts looping (Loop body) = IsSoundBody ts true body
   IsSoundStatement ts looping Exit = looping ≡ true
   IsSoundStatement ts looping Halt = Unit {0}
-  IsSoundStatement ts looping Return = Unit {0}
-  IsSoundStatement ts looping (Call p n given) = MayCall ts p n × IsGiven ts (parameters_of (procedure_by ts.procedures p)) given × AreSingle given
+  IsSoundStatement ts looping Return = result_here ts ≡ None
+  IsSoundStatement ts looping (Answer k e) = (result_here ts ≡ Some k) × IsSoundStored ts e k
+  IsSoundStatement ts looping (Call p n given) = MayCall ts p n × (result_of (procedure_by ts.procedures p) ≡ None) × IsGiven ts (parameters_of (procedure_by ts.procedures p)) given × AreSingle given
   IsSoundStatement ts looping (For v k a b step body) = IsSoundVariable ts v k × IsSoundValue ts a k × IsSoundWhole ts b (base_of k) × IsStep step × IsSoundBody ts looping body
   IsSoundStatement ts looping (Inside d body) = IsSoundHeld ts d × IsSoundBody (with_held ts (shape_of ts d)) looping body
 

@@ -1,21 +1,21 @@
 -- The views of the program's trees: which resolved module each one is, form by form.
-use Rattle.std.proofs.Common.{◌≡◌, ℕ, ℤ, List, map, Option, None, Some, sym, ap, ◌∙◌}
+use Rattle.std.proofs.Common.{◌≡◌, ℕ, ℤ, List, map, Option, None, Some, refl, sym, ap, ◌∙◌}
 use Rattle.lil_base.specs.{declared.operator.{OneOp.OneOp, TwoOp.{TwoOp, TheVariants.{Equal, Unequal, Less, AtMost, Greater, AtLeast, In, Plus, Minus, Or, Times, Slash, Div, Mod, And}}}, Words.{Cardinal, Integer}}
-use Rattle.lil_resolved.specs.declared.resolved.RExpr.{RExpr, TheOpen.{RExpr-F, RMember-F, RSelector-F, ROperation-F, RPlace-F}}
-use Rattle.lil_resolved.specs.declared.resolved.RExpr.TheFolds.{map-RExpr, map-RSelector, map-RMember, fold-roll-RExpr, fold-roll-RMember, fold-roll-RSelector, fold_out-RSelector, fold_out-RMember, fold_out-ROperation, fold_out-RPlace, fold-RExpr, fold-RSelector, fold-RMember, fold-ROperation, fold-RPlace}
-use Rattle.lil_resolved.specs.declared.resolved.{RExpr.TheViews.{roll-RExpr, roll-RMember, roll-RSelector}, ROperation.{ROperation, out-ROperation}, RPlace.{RPlace, out-RPlace}, RSelector.{RSelector, out-RSelector}, RMember.{RMember, out-RMember}, Membership.Membership, Allocation.Allocation, RKind.RKind}
+use Rattle.lil_resolved.specs.declared.resolved.{RExpr.RExpr, RArgument.TheOpen.{RExpr-F, RMember-F, RSelector-F, ROperation-F, RArgument-F, RPlace-F}}
+use Rattle.lil_resolved.specs.declared.resolved.RArgument.TheFolds.{map-RExpr, map-RArgument, map-RSelector, map-RMember, fold-roll-RExpr, fold-roll-RMember, fold-roll-RSelector, fold_out-RSelector, fold_out-RMember, fold_out-ROperation, fold_out-RPlace, fold-RExpr, fold-RSelector, fold-RMember, fold-ROperation, fold-RArgument, fold-roll-RArgument, fold-RPlace}
+use Rattle.lil_resolved.specs.declared.resolved.{RArgument.TheViews.{roll-RExpr, roll-RMember, roll-RSelector, roll-RArgument}, ROperation.{ROperation, out-ROperation}, RPlace.{RPlace, out-RPlace}, RSelector.{RSelector, out-RSelector}, RMember.{RMember, out-RMember}, Membership.Membership, Allocation.Allocation, RKind.RKind}
 use Rattle.lil_resolved.specs.{Kinds.{Kind, Objects, Workspaces, OfWhole, OfTruth, OfCharacter, OfEnumeration, OfSet, OfPointer, OfRange, compared_as, scalar_of, SetOf, Shape, Absent, Word, Row, Address, all_words, offsets_from, shape_at, fields_of, words}, declared.resolved.RStmt.{RStmt, TheOpen.{RStmt-F, RArm-F, RGuard-F}}}
 use Rattle.lil_resolved.specs.declared.resolved.{RStmt.{TheFolds.{map-RStmt, fold-roll-RStmt, fold-roll-RArm, fold-roll-RGuard, fold-RStmt, fold-RArm, fold-RGuard}, TheViews.roll-RStmt}, RGuard.RGuard, RArm.RArm, RBase.RBase, RVariable.RVariable, RNamed.RNamed, RFunction.RFunction, Direction.Direction, RArgument.RArgument}
-use Rattle.lil_resolved.specs.Resolved.{Named, OfModule, OfLevel, Designator, Field, Element, Follow, Expression, Constant, Taken, Apply, With, WithSpan, Assign, Copy, Text, Change, Member, New, Allocate, Request, If, Case, While, Repeat, Loop, Exit, Halt, Return, Call, For, Inside, Statements, Empty, Then, Arms, Arm, kind_of, Variable, Handed, Held, Function, Abs, Cap, Chr, Odd, Ord, Val, One, Two, Short, Argument, ByValue, OfPlace, OfAll, OfArray, OfText, Label, NoElse, Else, Procedure, Resolved}
+use Rattle.lil_resolved.specs.Resolved.{Named, OfModule, OfLevel, Designator, Field, Element, Follow, Expression, Constant, Taken, Apply, With, WithSpan, Assign, Copy, Text, Change, Member, New, Allocate, Request, If, Case, While, Repeat, Loop, Exit, Halt, Return, Answer, Call, For, Inside, Statements, Empty, Then, Arms, Arm, kind_of, Variable, Handed, Held, Function, Abs, Cap, Chr, Odd, Ord, Val, One, Two, Short, Argument, ByValue, OfPlace, OfAll, OfArray, OfText, Arguments, given_in, Invoke, Label, NoElse, Else, Procedure, Resolved}
 use Rattle.lil_resolved.specs.{Members.no_members, declared.{resolved.{RRange.RRange, RRoot.RRoot, RPassing.RPassing, RDeclared.RDeclared, RLabel.RLabel, RHeading.RHeading, RProcedure.RProcedure, RModule.RModule}, shapes.{RField.RField, RShape.RShape}}}
 use Rattle.lil_resolved.specs.declared.resolved.RExpr.TheVariants as e
-use Rattle.lil_resolved.specs.declared.resolved.RExpr.TheOpen as x
+use Rattle.lil_resolved.specs.declared.resolved.RArgument.TheOpen as x
 use Rattle.lil_resolved.specs.declared.resolved.RSelector.TheVariants as l
 use Rattle.lil_resolved.specs.declared.resolved.RMember.TheVariants as c
 use Rattle.lil_resolved.specs.declared.resolved.RStmt.TheVariants as s
 use Rattle.lil_resolved.specs.declared.resolved.RStmt.TheOpen as o
 use Rattle.lil_base.specs.declared.request.Request as request
-use Rattle.std.specs.{Prelude.{◌+◌, ◌<◌, ◌≤◌, min, Bool, [], ◌∷◌, ◌++◌, length, true, false}, List.All}
+use Rattle.std.specs.{Option.option_map, Prelude.{◌+◌, ◌<◌, ◌≤◌, min, Bool, [], ◌∷◌, ◌++◌, length, true, false}, List.All}
 use Rattle.lil_resolved.specs.declared.resolved.RBase.TheVariants as b
 use Rattle.lil_resolved.specs.declared.resolved.RFunction.TheVariants as f
 use Rattle.lil_resolved.specs.declared.resolved.Direction.TheVariants as d
@@ -116,20 +116,21 @@ abbrev pub empty_set : Expression
 empty_set = Constant OfSet (SetOf no_members)
 
 -- what an expression, a selector, an element, an operation and a place are, where their parts are known
-abbrev pub expression_layer : RExpr-F Expression (Kind → Expression → Expression) (Designator → Designator) (Expression → Expression) Designator → Expression
+abbrev pub expression_layer : RExpr-F Argument Expression (Kind → Expression → Expression) (Designator → Designator) (Expression → Expression) Designator → Expression
 expression_layer (x.Constant base z) = Constant (base_view base) (scalar_of (base_view base) z)
 expression_layer (x.Taken d k) = Taken d (kind_view k)
 expression_layer (x.One o a) = one_of o a
 expression_layer (x.Chain a os) = chained a os
 expression_layer (x.Apply f a) = Apply (function_of f (kind_of a)) a
 expression_layer (x.Set k es) = with_members (kind_view k) empty_set es
+expression_layer (x.Invoke p n k given) = Invoke p n (kind_view k) (given_in given)
 
-abbrev pub selector_layer : RSelector-F Expression (Kind → Expression → Expression) (Designator → Designator) (Expression → Expression) Designator → Designator → Designator
+abbrev pub selector_layer : RSelector-F Argument Expression (Kind → Expression → Expression) (Designator → Designator) (Expression → Expression) Designator → Designator → Designator
 selector_layer (x.Field i) d = Field d i
 selector_layer (x.Index k e) d = Element d (kind_view k) e
 selector_layer (x.Follow n) d = Follow d n
 
-abbrev pub member_layer : RMember-F Expression (Kind → Expression → Expression) (Designator → Designator) (Expression → Expression) Designator → Kind → Expression → Expression
+abbrev pub member_layer : RMember-F Argument Expression (Kind → Expression → Expression) (Designator → Designator) (Expression → Expression) Designator → Kind → Expression → Expression
 member_layer (x.Single a) k s = With s k a
 member_layer (x.Span a b) k s = WithSpan s k a b
 
@@ -138,33 +139,39 @@ root_view (t.Variable v) = Variable (named_view v)
 root_view (t.Handed n x) = Handed n x
 root_view (t.Held w) = Held w
 
-abbrev pub operation_layer : ROperation-F Expression (Kind → Expression → Expression) (Designator → Designator) (Expression → Expression) Designator → Expression → Expression
+abbrev pub operation_layer : ROperation-F Argument Expression (Kind → Expression → Expression) (Designator → Designator) (Expression → Expression) Designator → Expression → Expression
 operation_layer o a = two_of o.operator a o.operand
 
-abbrev pub place_layer : RPlace-F Expression (Kind → Expression → Expression) (Designator → Designator) (Expression → Expression) Designator → Designator
+abbrev pub place_layer : RPlace-F Argument Expression (Kind → Expression → Expression) (Designator → Designator) (Expression → Expression) Designator → Designator
 place_layer p = selected (root_view p.root) p.selectors
 
+abbrev pub argument_layer : RArgument-F Argument Expression (Kind → Expression → Expression) (Designator → Designator) (Expression → Expression) Designator → Argument
+argument_layer (x.Value k e) = ByValue (kind_view k) e
+argument_layer (x.Place p) = OfPlace p
+argument_layer (x.All p) = OfAll p
+argument_layer (x.Array p high) = OfArray p high
+argument_layer (x.Text cs) = OfText cs
+
 abbrev pub expression_of : RExpr → Expression
-expression_of = fold-RExpr Expression (Kind → Expression → Expression) (Designator → Designator) (Expression → Expression) Designator expression_layer member_layer selector_layer operation_layer place_layer
+expression_of = fold-RExpr Argument Expression (Kind → Expression → Expression) (Designator → Designator) (Expression → Expression) Designator argument_layer expression_layer member_layer selector_layer operation_layer place_layer
 
 abbrev pub selector_of : RSelector → Designator → Designator
-selector_of = fold-RSelector Expression (Kind → Expression → Expression) (Designator → Designator) (Expression → Expression) Designator expression_layer member_layer selector_layer operation_layer place_layer
+selector_of = fold-RSelector Argument Expression (Kind → Expression → Expression) (Designator → Designator) (Expression → Expression) Designator argument_layer expression_layer member_layer selector_layer operation_layer place_layer
 
 abbrev pub member_of : RMember → Kind → Expression → Expression
-member_of = fold-RMember Expression (Kind → Expression → Expression) (Designator → Designator) (Expression → Expression) Designator expression_layer member_layer selector_layer operation_layer place_layer
+member_of = fold-RMember Argument Expression (Kind → Expression → Expression) (Designator → Designator) (Expression → Expression) Designator argument_layer expression_layer member_layer selector_layer operation_layer place_layer
 
 abbrev pub operation_of : ROperation → Expression → Expression
-operation_of = fold-ROperation Expression (Kind → Expression → Expression) (Designator → Designator) (Expression → Expression) Designator expression_layer member_layer selector_layer operation_layer place_layer
+operation_of = fold-ROperation Argument Expression (Kind → Expression → Expression) (Designator → Designator) (Expression → Expression) Designator argument_layer expression_layer member_layer selector_layer operation_layer place_layer
 
 abbrev pub place_of : RPlace → Designator
-place_of = fold-RPlace Expression (Kind → Expression → Expression) (Designator → Designator) (Expression → Expression) Designator expression_layer member_layer selector_layer operation_layer place_layer
+place_of = fold-RPlace Argument Expression (Kind → Expression → Expression) (Designator → Designator) (Expression → Expression) Designator argument_layer expression_layer member_layer selector_layer operation_layer place_layer
 
 abbrev pub argument_of : RArgument → Argument
-argument_of (g.Value k e) = ByValue (kind_view k) (expression_of e)
-argument_of (g.Place p) = OfPlace (place_of p)
-argument_of (g.All p) = OfAll (place_of p)
-argument_of (g.Array p high) = OfArray (place_of p) high
-argument_of (g.Text cs) = OfText cs
+argument_of = fold-RArgument Argument Expression (Kind → Expression → Expression) (Designator → Designator) (Expression → Expression) Designator argument_layer expression_layer member_layer selector_layer operation_layer place_layer
+
+abbrev pub arguments_of : List RArgument → Arguments
+arguments_of given = given_in (map argument_of given)
 
 abbrev pub label_of : RLabel → Label
 label_of l = record { low = l.low; high = l.high }
@@ -202,7 +209,7 @@ statement_layer (o.Change way p k e) = Then (Change (is_down way) (place_of p) (
 statement_layer (o.Member m d k e) = Then (Member (is_out m) (place_of d) (kind_view k) (expression_of e)) Empty
 statement_layer (o.New p n) = Then (New (place_of p) n) Empty
 statement_layer (o.Allocate w p e) = Then (Allocate (is_back w) (place_of p) (expression_of e)) Empty
-statement_layer (o.Request r given) = Then (Request r (map argument_of given)) Empty
+statement_layer (o.Request r given) = Then (Request r (arguments_of given)) Empty
 statement_layer (o.If gs ss) = guarded gs (all_of ss)
 statement_layer (o.Case e cases other) = Then (Case (expression_of e) (armed cases (otherwise_of other))) Empty
 statement_layer (o.While e ss) = Then (While (expression_of e) (all_of ss)) Empty
@@ -211,7 +218,8 @@ statement_layer (o.Loop ss) = Then (Loop (all_of ss)) Empty
 statement_layer o.Exit = Then Exit Empty
 statement_layer o.Halt = Then Halt Empty
 statement_layer o.Return = Then Return Empty
-statement_layer (o.Call p n given) = Then (Call p n (map argument_of given)) Empty
+statement_layer (o.Answer k e) = Then (Answer (kind_view k) (expression_of e)) Empty
+statement_layer (o.Call p n given) = Then (Call p n (arguments_of given)) Empty
 statement_layer (o.For v a b step ss) = Then (For (named_view v.named) (variable_kind v) (expression_of a) (expression_of b) step (all_of ss)) Empty
 statement_layer (o.With p ss) = Then (Inside (place_of p) (all_of ss)) Empty
 
@@ -299,7 +307,7 @@ abbrev pub locals_of : List RShape → RHeading → List Shape
 locals_of ts h = map (shape_declared ts) h.locals
 
 abbrev pub procedure_of : List RShape → RProcedure → Procedure
-procedure_of ts p = record { name = p.heading.name; around = p.heading.around; locals = locals_of ts p.heading; parameters = p.heading.parameters; body = statements_of p.body }
+procedure_of ts p = record { name = p.heading.name; around = p.heading.around; locals = locals_of ts p.heading; parameters = p.heading.parameters; result = option_map kind_view p.heading.result; body = statements_of p.body }
 
 abbrev pub heading_of : RProcedure → RHeading
 heading_of p = p.heading
@@ -322,11 +330,33 @@ pub record IsMeasured (m : RModule) : Type 0 where
 -- ---- what each form of expression, an operation, a place, each form of selector and of statement, a guard and an arm are
 
 -- a layer's value comes from the values of its parts
-rolled_value : (y : RExpr-F RExpr RMember RSelector ROperation RPlace) → expression_of (roll-RExpr y) ≡ expression_layer (map-RExpr RExpr RMember RSelector ROperation RPlace Expression (Kind → Expression → Expression) (Designator → Designator) (Expression → Expression) Designator expression_of member_of selector_of operation_of place_of y)
-rolled_value = fold-roll-RExpr Expression (Kind → Expression → Expression) (Designator → Designator) (Expression → Expression) Designator expression_layer member_layer selector_layer operation_layer place_layer
+rolled_value : (y : RExpr-F RArgument RExpr RMember RSelector ROperation RPlace) → expression_of (roll-RExpr y) ≡ expression_layer (map-RExpr RArgument RExpr RMember RSelector ROperation RPlace Argument Expression (Kind → Expression → Expression) (Designator → Designator) (Expression → Expression) Designator argument_of expression_of member_of selector_of operation_of place_of y)
+rolled_value = fold-roll-RExpr Argument Expression (Kind → Expression → Expression) (Designator → Designator) (Expression → Expression) Designator argument_layer expression_layer member_layer selector_layer operation_layer place_layer
 
 pub constant_is : (b : RBase) (z : ℤ) → expression_of (e.Constant b z) ≡ Constant (base_view b) (scalar_of (base_view b) z)
 constant_is b z = ap expression_of (sym (e.rolls-Constant b z)) ∙ rolled_value (x.Constant b z)
+
+pub invoke_is : (p n : ℕ) (k : RKind) (given : List RArgument) → expression_of (e.Invoke p n k given) ≡ Invoke p n (kind_view k) (arguments_of given)
+invoke_is p n k given = ap expression_of (sym (e.rolls-Invoke p n k given)) ∙ rolled_value (x.Invoke p n k given)
+
+-- arguments
+rolled_argument : (y : RArgument-F RArgument RExpr RMember RSelector ROperation RPlace) → argument_of (roll-RArgument y) ≡ argument_layer (map-RArgument RArgument RExpr RMember RSelector ROperation RPlace Argument Expression (Kind → Expression → Expression) (Designator → Designator) (Expression → Expression) Designator argument_of expression_of member_of selector_of operation_of place_of y)
+rolled_argument = fold-roll-RArgument Argument Expression (Kind → Expression → Expression) (Designator → Designator) (Expression → Expression) Designator argument_layer expression_layer member_layer selector_layer operation_layer place_layer
+
+pub by_value_is : (k : RKind) (a : RExpr) → argument_of (g.Value k a) ≡ ByValue (kind_view k) (expression_of a)
+by_value_is k a = ap argument_of (sym (g.rolls-Value k a)) ∙ rolled_argument (x.Value k a)
+
+pub of_place_is : (p : RPlace) → argument_of (g.Place p) ≡ OfPlace (place_of p)
+of_place_is p = ap argument_of (sym (g.rolls-Place p)) ∙ rolled_argument (x.Place p)
+
+pub of_all_is : (p : RPlace) → argument_of (g.All p) ≡ OfAll (place_of p)
+of_all_is p = ap argument_of (sym (g.rolls-All p)) ∙ rolled_argument (x.All p)
+
+pub of_array_is : (p : RPlace) (high : ℕ) → argument_of (g.Array p high) ≡ OfArray (place_of p) high
+of_array_is p high = ap argument_of (sym (g.rolls-Array p high)) ∙ rolled_argument (x.Array p high)
+
+pub of_text_is : (cs : List ℕ) → argument_of (g.Text cs) ≡ OfText cs
+of_text_is cs = ap argument_of (sym (g.rolls-Text cs)) ∙ rolled_argument (x.Text cs)
 
 pub taken_is : (p : RPlace) (k : RKind) → expression_of (e.Taken p k) ≡ Taken (place_of p) (kind_view k)
 taken_is p k = ap expression_of (sym (e.rolls-Taken p k)) ∙ rolled_value (x.Taken p k)
@@ -344,26 +374,26 @@ pub set_is : (k : RKind) (ms : List RMember) → expression_of (e.Set k ms) ≡ 
 set_is k ms = ap expression_of (sym (e.rolls-Set k ms)) ∙ rolled_value (x.Set k ms)
 
 pub operation_is : (o : ROperation) (a : Expression) → operation_of o a ≡ two_of (out-ROperation o).operator a (expression_of (out-ROperation o).operand)
-operation_is o a = ap (λ (f : Expression → Expression). f a) (fold_out-ROperation Expression (Kind → Expression → Expression) (Designator → Designator) (Expression → Expression) Designator expression_layer member_layer selector_layer operation_layer place_layer o)
+operation_is o a = ap (λ (f : Expression → Expression). f a) (fold_out-ROperation Argument Expression (Kind → Expression → Expression) (Designator → Designator) (Expression → Expression) Designator argument_layer expression_layer member_layer selector_layer operation_layer place_layer o)
 
 pub place_is : (p : RPlace) → place_of p ≡ selected (root_view (out-RPlace p).root) (map selector_of (out-RPlace p).selectors)
-place_is = fold_out-RPlace Expression (Kind → Expression → Expression) (Designator → Designator) (Expression → Expression) Designator expression_layer member_layer selector_layer operation_layer place_layer
+place_is = fold_out-RPlace Argument Expression (Kind → Expression → Expression) (Designator → Designator) (Expression → Expression) Designator argument_layer expression_layer member_layer selector_layer operation_layer place_layer
 
 -- a layer's selector comes from those of its parts
-rolled_selector : (y : RSelector-F RExpr RMember RSelector ROperation RPlace) → selector_of (roll-RSelector y) ≡ selector_layer (map-RSelector RExpr RMember RSelector ROperation RPlace Expression (Kind → Expression → Expression) (Designator → Designator) (Expression → Expression) Designator expression_of member_of selector_of operation_of place_of y)
-rolled_selector = fold-roll-RSelector Expression (Kind → Expression → Expression) (Designator → Designator) (Expression → Expression) Designator expression_layer member_layer selector_layer operation_layer place_layer
+rolled_selector : (y : RSelector-F RArgument RExpr RMember RSelector ROperation RPlace) → selector_of (roll-RSelector y) ≡ selector_layer (map-RSelector RArgument RExpr RMember RSelector ROperation RPlace Argument Expression (Kind → Expression → Expression) (Designator → Designator) (Expression → Expression) Designator argument_of expression_of member_of selector_of operation_of place_of y)
+rolled_selector = fold-roll-RSelector Argument Expression (Kind → Expression → Expression) (Designator → Designator) (Expression → Expression) Designator argument_layer expression_layer member_layer selector_layer operation_layer place_layer
 
 -- a selector by its form
-pub selector_is : (s : RSelector) (d : Designator) → selector_of s d ≡ selector_layer (map-RSelector RExpr RMember RSelector ROperation RPlace Expression (Kind → Expression → Expression) (Designator → Designator) (Expression → Expression) Designator expression_of member_of selector_of operation_of place_of (out-RSelector s)) d
-selector_is s d = ap (λ (f : Designator → Designator). f d) (fold_out-RSelector Expression (Kind → Expression → Expression) (Designator → Designator) (Expression → Expression) Designator expression_layer member_layer selector_layer operation_layer place_layer s)
+pub selector_is : (s : RSelector) (d : Designator) → selector_of s d ≡ selector_layer (map-RSelector RArgument RExpr RMember RSelector ROperation RPlace Argument Expression (Kind → Expression → Expression) (Designator → Designator) (Expression → Expression) Designator argument_of expression_of member_of selector_of operation_of place_of (out-RSelector s)) d
+selector_is s d = ap (λ (f : Designator → Designator). f d) (fold_out-RSelector Argument Expression (Kind → Expression → Expression) (Designator → Designator) (Expression → Expression) Designator argument_layer expression_layer member_layer selector_layer operation_layer place_layer s)
 
 -- a member by its form
-pub member_is : (m : RMember) (k : Kind) (s : Expression) → member_of m k s ≡ member_layer (map-RMember RExpr RMember RSelector ROperation RPlace Expression (Kind → Expression → Expression) (Designator → Designator) (Expression → Expression) Designator expression_of member_of selector_of operation_of place_of (out-RMember m)) k s
-member_is m k s = ap (λ (f : Kind → Expression → Expression). f k s) (fold_out-RMember Expression (Kind → Expression → Expression) (Designator → Designator) (Expression → Expression) Designator expression_layer member_layer selector_layer operation_layer place_layer m)
+pub member_is : (m : RMember) (k : Kind) (s : Expression) → member_of m k s ≡ member_layer (map-RMember RArgument RExpr RMember RSelector ROperation RPlace Argument Expression (Kind → Expression → Expression) (Designator → Designator) (Expression → Expression) Designator argument_of expression_of member_of selector_of operation_of place_of (out-RMember m)) k s
+member_is m k s = ap (λ (f : Kind → Expression → Expression). f k s) (fold_out-RMember Argument Expression (Kind → Expression → Expression) (Designator → Designator) (Expression → Expression) Designator argument_layer expression_layer member_layer selector_layer operation_layer place_layer m)
 
 -- a layer's member comes from its parts
-rolled_member : (y : RMember-F RExpr RMember RSelector ROperation RPlace) → member_of (roll-RMember y) ≡ member_layer (map-RMember RExpr RMember RSelector ROperation RPlace Expression (Kind → Expression → Expression) (Designator → Designator) (Expression → Expression) Designator expression_of member_of selector_of operation_of place_of y)
-rolled_member = fold-roll-RMember Expression (Kind → Expression → Expression) (Designator → Designator) (Expression → Expression) Designator expression_layer member_layer selector_layer operation_layer place_layer
+rolled_member : (y : RMember-F RArgument RExpr RMember RSelector ROperation RPlace) → member_of (roll-RMember y) ≡ member_layer (map-RMember RArgument RExpr RMember RSelector ROperation RPlace Argument Expression (Kind → Expression → Expression) (Designator → Designator) (Expression → Expression) Designator argument_of expression_of member_of selector_of operation_of place_of y)
+rolled_member = fold-roll-RMember Argument Expression (Kind → Expression → Expression) (Designator → Designator) (Expression → Expression) Designator argument_layer expression_layer member_layer selector_layer operation_layer place_layer
 
 pub single_is : (a : RExpr) → member_of (c.Single a) ≡ (λ k s. With s k (expression_of a))
 single_is a = ap member_of (sym (c.rolls-Single a)) ∙ rolled_member (x.Single a)
@@ -406,7 +436,7 @@ new_is p n = ap statement_of (sym (s.rolls-New p n)) ∙ rolled (o.New p n)
 pub allocate_is : (w : Allocation) (p : RPlace) (e : RExpr) → statement_of (s.Allocate w p e) ≡ Then (Allocate (is_back w) (place_of p) (expression_of e)) Empty
 allocate_is w p e = ap statement_of (sym (s.rolls-Allocate w p e)) ∙ rolled (o.Allocate w p e)
 
-pub request_is : (r : request.Request) (given : List RArgument) → statement_of (s.Request r given) ≡ Then (Request r (map argument_of given)) Empty
+pub request_is : (r : request.Request) (given : List RArgument) → statement_of (s.Request r given) ≡ Then (Request r (arguments_of given)) Empty
 request_is r given = ap statement_of (sym (s.rolls-Request r given)) ∙ rolled (o.Request r given)
 
 pub if_is : (gs : List RGuard) (other : List RStmt) → statement_of (s.If gs other) ≡ guards_of gs other
@@ -434,7 +464,10 @@ halt_is = ap statement_of (sym s.rolls-Halt) ∙ rolled o.Halt
 pub return_is : statement_of s.Return ≡ Then Return Empty
 return_is = ap statement_of (sym s.rolls-Return) ∙ rolled o.Return
 
-pub call_is : (p n : ℕ) (given : List RArgument) → statement_of (s.Call p n given) ≡ Then (Call p n (map argument_of given)) Empty
+pub answer_is : (k : RKind) (e : RExpr) → statement_of (s.Answer k e) ≡ Then (Answer (kind_view k) (expression_of e)) Empty
+answer_is k e = ap statement_of (sym (s.rolls-Answer k e)) ∙ rolled (o.Answer k e)
+
+pub call_is : (p n : ℕ) (given : List RArgument) → statement_of (s.Call p n given) ≡ Then (Call p n (arguments_of given)) Empty
 call_is p n given = ap statement_of (sym (s.rolls-Call p n given)) ∙ rolled (o.Call p n given)
 
 pub for_is : (v : RVariable) (a b : RExpr) (step : ℤ) (ss : List RStmt)

@@ -83,7 +83,8 @@ pub enum Allocation {
 /// An expression with each name replaced by its thing, and each constant expression by its value, which stands by its
 /// number. That of a set is the sum of 2 to the power of each number in it, and that of NIL is 0. A chain is its first operand, and then each
 /// operation in its order on what stands before it. A value that stands at a place is of the place's kind. A set has its
-/// members in order, numbers of a kind.
+/// members in order, numbers of a kind. A call of a function has its procedure's number, from 1, how many levels out that is
+/// declared, the kind of its value, and its arguments.
 #[cycle(value)]
 #[derive(Drop)]
 pub enum RExpr {
@@ -93,6 +94,7 @@ pub enum RExpr {
     Chain(Boxed<RExpr>, Items<ROperation>),
     Apply(RFunction, Boxed<RExpr>),
     Set(RKind, Items<RMember>),
+    Invoke(u8, u8, RKind, Items<RArgument>),
 }
 
 /// What an operator does to the value before it: the operator, and its right operand.
@@ -138,8 +140,10 @@ pub enum RMember {
     Span(RExpr, RExpr),
 }
 
-/// An argument: a value, with its parameter's kind; a place for a VAR parameter; or for a parameter that is an open array of
-/// characters an array, with the number of its last element, or a string.
+/// An argument: a value, with its parameter's kind; a place for a VAR parameter; all that lies at a place, for an array or a
+/// record by value; or for a parameter that is an open array of characters an array, with the number of its last element, or
+/// a string.
+#[cycle(value)]
 #[derive(Drop)]
 pub enum RArgument {
     Value(RKind, RExpr),
@@ -174,6 +178,7 @@ pub enum RStmt {
     Exit,
     Halt,
     Return,
+    Answer(RKind, RExpr),
     Call(u8, u8, Items<RArgument>),
     For(RVariable, RExpr, RExpr, i16, Items<RStmt>),
     With(RPlace, Items<RStmt>),
@@ -227,6 +232,7 @@ pub struct RHeading {
     pub around: Items<u8>,
     pub locals: Items<RDeclared>,
     pub parameters: usize,
+    pub result: Option<RKind>,
     pub words: u16,
 }
 
@@ -254,7 +260,7 @@ pub struct RModule {
 /// The base of the values of an expression: that of a chain's first operand, where all its operators give values of their
 /// operands' kind.
 #[cycle(kinds)]
-#[tactic(auto, using(crate::specs::Chains::chain_kind, crate::specs::Chains::set_kind, crate::specs::Bases::own_base))]
+#[tactic(auto, using(crate::specs::Chains::chain_kind, crate::specs::Chains::set_kind, crate::specs::Views::invoke_is, crate::specs::Bases::own_base))]
 pub fn base(e: &RExpr) -> RBase
     ensures { base_view result ≡ kind_of (expression_of e.now) }
 {
@@ -264,6 +270,7 @@ pub fn base(e: &RExpr) -> RBase
         RExpr::One(_, value) => base(value.get()),
         RExpr::Apply(function, value) => function_base(*function, value.get()),
         RExpr::Set(_, _) => RBase::Set,
+        RExpr::Invoke(_, _, kind, _) => kind.base,
         RExpr::Chain(first, operations) => {
             if compute_all(operations.as_slice()) {
                 base(first.get())

@@ -1,6 +1,6 @@
 -- Calls of told arguments have values, and are sound statements.
-use Rattle.std.proofs.Common.{◌≡◌, ℕ, suc, ◌+◌, Bool, true, false, not, List, [], ◌∷◌, ◌++◌, append-nil, append_assoc, length, map, slice_get, Option, Some, None, if◌then◌else◌, refl, sym, ap, subst, ◌∙◌, arith, true≢false}
-use Rattle.std.specs.Prelude.{◌==◌, ◌&&◌, nat_lt, is_some}
+use Rattle.std.proofs.Common.{◌≡◌, ℕ, suc, ◌+◌, ◌<◌, ◌≤◌, max, Bool, true, false, not, List, [], ◌∷◌, ◌++◌, append-nil, append_assoc, length, map, slice_get, Option, Some, None, if◌then◌else◌, refl, sym, ap, subst, ◌∙◌, arith, true≢false}
+use Rattle.std.specs.Prelude.{◌==◌, ◌&&◌, ◌||◌, nat_lt, is_some}
 use Rattle.std.proofs.lemmas.{Bool.{and_left, and_right, false_from_ne_true, Decides.nat_tests}, List.length_push, Option.{none-some, same_Some}}
 use Rattle.lil_base.specs.{Lists.joined, declared.fault.Place.Place}
 use Rattle.lil_base.specs.declared.request.Request as requests
@@ -8,36 +8,29 @@ use Rattle.lil_base.specs.declared.request.Request.TheVariants as q
 use Rattle.lil_types.specs.{Types.{Table, integer, cardinal, char, address}, declared.table.Parameter.Parameter}
 use Rattle.lil_declared.specs.declared.{declared.RVar.RVar, standard.Resident.Resident}
 use Rattle.lil_declared.specs.declared.standard.Resident.TheVariants as resident
-use Rattle.lil_resolved.specs.{Kinds.{Shape, Word, Scope, parameters_of, procedure_by}, Sound.{request_parameters, parameter_of, AreSingle, AreServed, AreSoundArguments}, Views.{argument_of, base_view, allocate_is, request_is, call_is}}
-use Rattle.lil_resolved.specs.declared.resolved.{Allocation.{Allocation, TheVariants.{Takes, GivesBack}}, RArgument.RArgument, RBase.RBase, RNamed.RNamed, RStmt.RStmt}
+use Rattle.lil_resolved.specs.{Bases.own_base, Kinds.{Word, Scope, parameters_of, procedure_by}, Resolved.kind_of, Sizes.depth, Sound.{request_parameters, parameter_of, parameters_given, IsServed, AreServed, IsSoundArgument, AreSoundArguments, IsSoundStored}, Views.{argument_of, arguments_of, base_view, expression_of, by_value_is, invoke_is, allocate_is, request_is, call_is}}
+use Rattle.lil_resolved.specs.declared.resolved.{Allocation.{Allocation, TheVariants.{Takes, GivesBack}}, RArgument.{RArgument, TheViews.{out-roll-RArgument}}, RBase.RBase, RExpr.RExpr, RKind.RKind, RNamed.RNamed, RPlace.RPlace, RStmt.RStmt}
+use Rattle.lil_resolved.specs.declared.resolved.RArgument.TheOpen as layer
+use Rattle.lil_resolved.specs.declared.resolved.RExpr.TheVariants as expr
 use Rattle.lil_resolved.specs.declared.resolved.RArgument.TheVariants as given
 use Rattle.lil_resolved.specs.declared.resolved.RBase.TheVariants as b
 use Rattle.lil_resolved.specs.declared.resolved.RStmt.TheVariants as statement
-use Rattle.lil_shapes.specs.{BaseLaws.same_sort, Bases.{plain, kind_at}, ListLaws.AllFine, Pointers.lies_at, ShapeSound.mapped, Shaping.all_some}
+use Rattle.lil_shapes.specs.{BaseLaws.same_sort, Bases.{plain, kind_at, composite_at}, ListLaws.AllFine, Pointers.lies_at}
 use Rattle.lil_scope.specs.Built.{resident_built}
 use Rattle.lil_report.specs.Told.{Row, after}
-use Rattle.lil_kinds.specs.{Forms.{is_routine, arity, parameter, parameters}, declared.found.Found.Found}
-use Rattle.lil_forms.specs.{Properties.Property, Scopes.{Fits, both_left}, Soundness.soundness, StatementSound.{StatementSound, made_sound}, Statements.{argument_given, nothing_handed, handed_over, request, allocation, called}}
-use Rattle.lil_call.specs.{declared.{call.{Argument.Argument, Callee.Callee}, passing.Passed.Passed, routines.Invoked.Invoked}, Calls.{is_callable, heading_node, depth_node, is_resident, passed_if, routine_mean, own_call, call_statement, no_call, of_procedure, of_variable, of_resident, value_of, statement_of, call_node, statement_node}}
-use Rattle.lil_call.specs.Passing.{all_have_values, nothing_passed, with_argument, argument_node, argument_by, argument_step, arguments_mean}
+use Rattle.lil_scope.specs.declared.thing.Kind.TheVariants as kind
+use Rattle.lil_kinds.specs.{Forms.{is_routine, arity, parameter, parameters, result}, declared.found.Found.Found}
+use Rattle.lil_forms.specs.{Properties.{Property, Reach, AreHanded}, Scopes.{Fits, both_left, both_right}, Soundness.{soundness, all_passed}, StatementSound.{StatementSound, made_sound}, Statements.{argument_given, nothing_handed, handed_over, request, place_of_layer, place_in, value_of_layer, value_in, allocated, allocation, called}, Values.{value_form, returned}}
+use Rattle.lil_call.specs.{declared.{call.{Argument.Argument, Callee.Callee}, passing.Passed.Passed, routines.Invoked.Invoked}, Calls.{is_callable, heading_node, depth_node, is_resident, passed_if, routine_mean, own_value, call_found, routine_value, own_call, call_statement, no_call, of_procedure, of_variable, of_resident, value_of, statement_of, call_node, statement_node}}
+use Rattle.lil_call.specs.declared.routines.Target.TheVariants as target
+use Rattle.lil_call.specs.Procedures.{agrees}
+use Rattle.lil_call.specs.Passing.{all_have_values, nothing_passed, raised, with_argument, argument_node, argument_by, argument_step, arguments_mean}
 use Rattle.lil_call.specs.declared.call.Argument.TheVariants as argument
 use Rattle.lil_call.specs.declared.call.Callee.TheVariants as callee
-use Rattle.lil_right_type.specs.{Found.{IsFound, ParameterTold, value, place, signature}, Parts.routine_is, Right.{Right, IsThere, is_so, after_right}, Typed.kept_if, Types.IsTold}
-use Rattle.lil_right_call.specs.{Functions.function_right, Given.{IsTaken, string_there, value_there, stored_there, address_there, argument_there}, Procedures.procedure_right, Told.{ArgumentTold, CalleeTold, parameter_shape, IsReached, Calls}}
+use Rattle.lil_right_type.specs.{Found.{GoesWith, IsFound, ParameterTold, ResultTold, HeadingTold, value, place, signature}, Parts.routine_is, Right.{Right, IsThere, is_so, after_right}, Typed.kept_if, Types.IsTold}
+use Rattle.lil_right_call.specs.{Functions.function_right, Given.{IsTaken, string_there, value_there, stored_there, address_there, argument_there}, Procedures.procedure_right, Told.{ArgumentTold, CalleeTold}}
 
--- values that are all there have a first one
-pub record HasFirst {A : Type 0} (o : Option A) (os : List (Option A)) (xs : List A) : Type 0 where
-  pub value : A
-  pub rest : List A
-  pub is : o ≡ Some value
-  pub others : all_some os ≡ Some rest
-  pub all : xs ≡ value ∷ rest
-
-pub first_some : {A : Type 0} (o : Option A) (os : List (Option A)) (xs : List A) → all_some (o ∷ os) ≡ Some xs → HasFirst o os xs
-first_some None os xs h = absurd (none-some xs h)
-first_some (Some a) os xs h = let rest = mapped (λ rest. a ∷ rest) (all_some os) xs h in record { value = a; rest = rest.0; is = refl; others = rest.1; all = sym rest.2 }
-
-module _ {t : Table} {vs : RNamed → Option RVar} {around : List ℕ} (P : Property t vs around) (told : IsTold t) where
+module _ {t : Table} {vs : RNamed → Option RVar} {around : List ℕ} {R : Reach} (P : Property t vs around R) (told : IsTold t) where
   -- ---- arguments
   -- arguments that are handed over to parameters, one after another
   abbrev Hands : List Parameter → Option (List RArgument) → Option (List RArgument) → Type 0
@@ -64,19 +57,24 @@ module _ {t : Table} {vs : RNamed → Option RVar} {around : List ℕ} (P : Prop
   step_right resident sort p s (argument.Type at n) is so h = λ clear. absurd (true≢false clear.0)
 
   abbrev AllPassed : List Parameter → Option (List RArgument) → Passed → Type 0
-  AllPassed ps h e = (e.is_right ≡ true) × Hands ps h e.handed
+  AllPassed ps h e = (e.is_right ≡ true) × (1 ≤ e.depth) × Hands ps h e.handed
 
-  arguments_right : (resident : Bool) (sort : ℕ) (ps : List Parameter) (s : Passed) (xs : List Argument) → AreNext sort (length s.parameters) ps → length ps ≡ length xs → s.is_right ≡ true → AllFine (ArgumentTold P) xs → Right (AllPassed ps s.handed) (arguments_mean t resident sort s xs)
-  arguments_right resident sort [] s [] next count so all = λ clear. (so, refl)
-  arguments_right resident sort (p ∷ ps) s (x ∷ xs) next count so all =
+  arguments_right : (resident : Bool) (sort : ℕ) (ps : List Parameter) (s : Passed) (xs : List Argument) → AreNext sort (length s.parameters) ps → length ps ≡ length xs → s.is_right ≡ true → 1 ≤ s.depth → AllFine (ArgumentTold P) xs → Right (AllPassed ps s.handed) (arguments_mean t resident sort s xs)
+  arguments_right resident sort [] s [] next count so some all = λ clear. (so, some, refl)
+  arguments_right resident sort (p ∷ ps) s (x ∷ xs) next count so some all =
       after_right (IsPassed resident p s) (AllPassed (p ∷ ps) s.handed) (argument_step t resident sort s x) (λ e. arguments_mean t resident sort e xs) (step_right resident sort p s x (ap (parameter t sort) (omega arith) ∙ next 0) so all.0) (λ e g clear.
       let more : length e.parameters ≡ length s.parameters + 1 = ap (λ (e : Passed). length e.parameters) g.3 ∙ length_push s.parameters p in
-      let rest = arguments_right resident sort ps e xs (λ i. ap (parameter t sort) (omega (arith, more)) ∙ next (suc i)) (omega (arith, count)) g.4 all.1 clear in
-      (rest.0, (g.0, g.1, g.2, subst (λ h. Hands ps h (arguments_mean t resident sort e xs).0.handed) (ap (λ (e : Passed). e.handed) g.3) rest.1)))
-  arguments_right resident sort _ s _ next count so all = absurd (omega (arith, count))
+      let depth : e.depth ≡ max s.depth (raised s.words g.0.depth) = ap (λ (e : Passed). e.depth) g.3 in
+      let rest = arguments_right resident sort ps e xs (λ i. ap (parameter t sort) (omega (arith, more)) ∙ next (suc i)) (omega (arith, count)) g.4 (omega (arith, depth, some)) all.1 clear in
+      (rest.0, rest.1, (g.0, g.1, g.2, subst (λ h. Hands ps h (arguments_mean t resident sort e xs).0.handed) (ap (λ (e : Passed). e.handed) g.3) rest.2)))
+  arguments_right resident sort _ s _ next count so some all = absurd (omega (arith, count))
 
-  abbrev IsHanded : List Parameter → Passed → Type 0
-  IsHanded ps e = Hands ps nothing_handed e.handed
+  -- a call that may be made, with what it is handed, and the depth of its code
+  record IsReady (wanted : Bool) (sort : ℕ) (ps : List Parameter) (e : Passed) : Type 0 where
+    callable : is_callable t wanted sort ≡ true
+    hands : Hands ps nothing_handed e.handed
+    some : 1 ≤ e.depth
+    few : e.depth ≤ 12
 
   have_values : (xs : List Argument) → AllFine (ArgumentTold P) xs → all_have_values xs ≡ true
   have_values [] h = refl
@@ -102,32 +100,90 @@ module _ {t : Table} {vs : RNamed → Option RVar} {around : List ℕ} (P : Prop
     no_routine : (wanted : Bool) (s : ℕ) → lies_at t s ≡ true → is_callable t wanted s ≡ false
     no_routine wanted s lies = and_left (is_routine t s) _ (false_from_ne_true (is_routine t s) (λ is. true≢false (sym lies ∙ routine_is t told s is)))
 
-    passed_right : (v : Invoked) (ps : List Parameter) (xs : List Argument) → parameters t v.sort ≡ ps → AllFine (ArgumentTold P) xs → Right (IsThere (IsHanded ps)) (routine_mean t p false v xs)
+    shallow : (n : ℕ) → nat_lt 12 n ≡ false → n ≤ 12
+    shallow n h = grind (arith, nat_tests, h)
+
+    passed_right : (wanted : Bool) (v : Invoked) (ps : List Parameter) (xs : List Argument) → parameters t v.sort ≡ ps → AllFine (ArgumentTold P) xs → Right (IsThere (IsReady wanted v.sort ps)) (routine_mean t p wanted v xs)
     unfolding parameter arity depth_node
-    passed_right v ps xs is all =
-        after_right (λ c. (c ≡ true) × (is_callable t false v.sort ≡ true) × (arity t v.sort ≡ length xs)) (IsThere (IsHanded ps)) _ (passed_if t p v xs) (heading_right false v.sort (length xs)) (λ c h.
-        subst (λ c. Right (IsThere (IsHanded ps)) (passed_if t p v xs c)) (sym h.0) (
-        after_right (AllPassed ps nothing_handed) (IsThere (IsHanded ps)) _ (depth_node p)
-        (arguments_right (is_resident v.target) v.sort ps (nothing_passed v.depth) xs (λ i. ap (slice_get (parameters t v.sort)) (omega arith) ∙ ap (λ ps. slice_get ps i) is) (sym (ap length is) ∙ h.2) refl all)
-        (λ e g clear. kept_if (IsHanded ps) _ e (λ i. g.0 i && not (clear.0 i)) g.1)))
+    passed_right wanted v ps xs is all =
+        after_right (λ c. (c ≡ true) × (is_callable t wanted v.sort ≡ true) × (arity t v.sort ≡ length xs)) (IsThere (IsReady wanted v.sort ps)) _ (passed_if t p v xs) (heading_right wanted v.sort (length xs)) (λ c h.
+        subst (λ c. Right (IsThere (IsReady wanted v.sort ps)) (passed_if t p v xs c)) (sym h.0) (
+        after_right (AllPassed ps nothing_handed) (IsThere (IsReady wanted v.sort ps)) _ (depth_node p)
+        (arguments_right (is_resident v.target) v.sort ps (nothing_passed v.depth) xs (λ i. ap (slice_get (parameters t v.sort)) (omega arith) ∙ ap (λ ps. slice_get ps i) is) (sym (ap length is) ∙ h.2) refl (omega arith) all)
+        (λ e g clear. kept_if (IsReady wanted v.sort ps) _ e (λ i. g.0 i && not (clear.0 i)) (record { callable = h.1; hands = g.2; some = g.1; few = shallow e.depth clear.0 }))))
+
+  -- ---- calls of procedures of the text
+  -- what is handed over to parameters, behind what was before
+  record AreGiven (ps : List Parameter) (before : List RArgument) (h : Option (List RArgument)) : Type 0 where
+    added : List RArgument
+    is : h ≡ Some (before ++ added)
+    handed : AreHanded t P.place P.value ps added
+
+  handed_one : (p : Parameter) (before : List RArgument) (x : Found) (a : RArgument) → argument_given t p x ≡ Some a → handed_over t p (Some before) x ≡ Some (before ++ a ∷ [])
+  unfolding handed_over
+  handed_one p before x a is = ap (joined (Some before)) is
+
+  given_there : (ps : List Parameter) (before : List RArgument) (h : Option (List RArgument)) → AllFine (ParameterTold t) ps → Hands ps (Some before) h → AreGiven ps before h
+  given_there [] before h of all = record { added = []; is = all ∙ ap Some (sym (append-nil before)); handed = tt }
+  given_there (p ∷ ps) before h of all =
+      let a = argument_there P told all.0 all.1 p of.0 all.2 in
+      let rest = given_there ps (before ++ a.0 ∷ []) h of.1 (subst (λ o. Hands ps o h) (handed_one p before all.0 a.0 a.1) all.3) in
+      record { added = a.0 ∷ rest.added; is = rest.is ∙ ap Some (append_assoc before (a.0 ∷ []) rest.added); handed = (a.2, rest.handed) }
+
+  both_bytes : (n levels : ℕ) → n < 255 → levels < 256 → (nat_lt n 255 && nat_lt levels 256) ≡ true
+  both_bytes n levels low few = grind (arith, nat_tests, low, few)
+
+  module _ (p : Place) where
+    -- ---- functions of the text
+    own_found : (s n levels r : ℕ) (k : RKind) (e : Passed) → R s n levels → n < 255 → levels < 256 → AllFine (ParameterTold t) (parameters t s) → result t s ≡ Some r → kind_at t r ≡ Some k → IsReady true s (parameters t s) e
+        → IsThere (IsFound P) (call_found t p (target.Own n levels) (Some r) (Some e))
+    own_found s n levels r k e reached low few of returns at ready =
+        let g = given_there (parameters t s) [] e.handed of ready.hands in
+        let its : own_value n levels (kind_at t r) e.handed ≡ Some (expr.Invoke (n + 1) levels k g.added) =
+        (λ i. own_value n levels (at i) (g.is i)) ∙ ap (λ c. if c then Some (expr.Invoke (n + 1) levels k g.added) else None) (both_bytes n levels low few) in
+        record {
+          kind = ap (λ o. is_some o || composite_at t r) at;
+          form = subst (λ o. GoesWith P e.depth (kind.Of r) (value_form o)) (sym its) (record {
+            as_kind = k;
+            at = at;
+            kind = ap kind_of (invoke_is (n + 1) levels k g.added) ∙ own_base k;
+            deep = subst (λ y. depth y ≤ e.depth + 1) (sym (invoke_is (n + 1) levels k g.added)) (omega arith);
+            good = P.invoke s n levels r k g.added reached returns at g.handed;
+          });
+          place = tt;
+          some = ready.some;
+          few = ready.few;
+        }
+
+    own_value_right : (s n levels : ℕ) (xs : List Argument) → HeadingTold t s → R s n levels → n < 255 → levels < 256 → AllFine (ArgumentTold P) xs → Right (IsThere (IsFound P)) (routine_value t p (of_procedure s n levels) xs)
+    own_value_right s n levels xs told_so reached low few all = by (result t s) refl told_so.1
+      where
+        by : (o : Option ℕ) → result t s ≡ o → ResultTold t o → Right (IsThere (IsFound P)) (routine_value t p (of_procedure s n levels) xs)
+        by None none h = uncalled p (IsThere (IsFound P)) true (of_procedure s n levels) xs _ (and_right (is_routine t s) _ (ap is_some none))
+        by (Some r) returns h =
+            after_right (IsThere (IsReady true s (parameters t s))) (IsThere (IsFound P)) (routine_mean t p true (of_procedure s n levels) xs) _ (passed_right p true (of_procedure s n levels) (parameters t s) xs refl all) found
+          where
+            found : (o : Option Passed) → IsThere (IsReady true s (parameters t s)) o → Right (IsThere (IsFound P)) (call_found t p (target.Own n levels) (result t s) o, [])
+            found None j clear = absurd j
+            found (Some e) j clear = subst (λ o. IsThere (IsFound P) (call_found t p (target.Own n levels) o (Some e))) (sym returns) (own_found s n levels r h.0 e reached low few told_so.0 returns h.1 j)
 
     -- ---- calls that have values
-    value_right : (R : ℕ → ℕ → ℕ → Type 0) (c : Callee) (xs : List Argument) → CalleeTold t R c → AllFine (ArgumentTold P) xs → Right (IsThere (IsFound P)) (value_of t p c xs)
+    value_right : (c : Callee) (xs : List Argument) → CalleeTold t R c → AllFine (ArgumentTold P) xs → Right (IsThere (IsFound P)) (value_of t p c xs)
     unfolding no_call
-    value_right R (callee.Procedure s n levels) xs h all = uncalled (IsThere (IsFound P)) true (of_procedure s n levels) xs _ (and_right (is_routine t s) _ (ap is_some h.0.1))
-    value_right R (callee.Variable s d) xs h all = uncalled (IsThere (IsFound P)) true (of_variable s d) xs _ (no_routine true s h)
-    value_right R (callee.Resident r s) xs h all = uncalled (IsThere (IsFound P)) true (of_resident r s) xs _ (and_right (is_routine t s) _ (ap is_some h.1))
-    value_right R (callee.Standard of) xs h all = function_right P told p of xs all
-    value_right R callee.Other xs h all = λ clear. absurd (true≢false clear.0)
+    value_right (callee.Procedure s n levels) xs h all = own_value_right s n levels xs h.0 h.1 h.2 h.3 all
+    value_right (callee.Variable s d) xs h all = uncalled p (IsThere (IsFound P)) true (of_variable s d) xs _ (no_routine p true s h)
+    value_right (callee.Resident r s) xs h all = uncalled p (IsThere (IsFound P)) true (of_resident r s) xs _ (and_right (is_routine t s) _ (ap is_some h.1))
+    value_right (callee.Standard of) xs h all = function_right P told p of xs all
+    value_right callee.Other xs h all = λ clear. absurd (true≢false clear.0)
 
-  pub call_node_right : (R : ℕ → ℕ → ℕ → Type 0) (p : Place) (c : Option Callee) (xs : List Argument) → IsThere (CalleeTold t R) c → AllFine (ArgumentTold P) xs → Right (IsThere (IsFound P)) (call_node t p c xs)
+  pub call_node_right : (p : Place) (c : Option Callee) (xs : List Argument) → IsThere (CalleeTold t R) c → AllFine (ArgumentTold P) xs → Right (IsThere (IsFound P)) (call_node t p c xs)
   unfolding call_node
-  call_node_right R p None xs h all = absurd h
-  call_node_right R p (Some c) xs h all = subst (λ b. Right (IsThere (IsFound P)) (if b then value_of t p c xs else (None, []))) (sym (have_values xs all)) (value_right p R c xs h all)
+  call_node_right p None xs h all = absurd h
+  call_node_right p (Some c) xs h all = subst (λ b. Right (IsThere (IsFound P)) (if b then value_of t p c xs else (None, []))) (sym (have_values xs all)) (value_right p c xs h all)
 
 -- ---- calls that are statements
-module _ {t : Table} {vs : RNamed → Option RVar} {around : List ℕ} {ts : Scope} (fits : Fits t vs around ts) (told : IsTold t) (looping : Bool) where
-  abbrev P : Property t vs around
+module _ {t : Table} {vs : RNamed → Option RVar} {around : List ℕ} {R : Reach} {ts : Scope} (fits : Fits t vs around R ts) (told : IsTold t) (looping : Bool) where
+  abbrev P : Property t vs around R
   P = soundness fits
 
   abbrev IsDone : Option RStmt → Type 0
@@ -140,8 +196,14 @@ module _ {t : Table} {vs : RNamed → Option RVar} {around : List ℕ} {ts : Sco
   along : (f : Option (List RArgument) → Option RStmt) (h : Option (List RArgument)) → IsMade f h → IsDone (f h)
   along f h made = subst (λ h. IsDone (f h)) (sym made.1) made.2
 
-  requested_there : (r : requests.Request) (xs : List RArgument) → request_parameters r ≡ map (parameter_of ts) (map argument_of xs) → AreSoundArguments ts (map argument_of xs) → AreServed (map argument_of xs) → IsDone (request (Some r) xs)
+  requested_there : (r : requests.Request) (xs : List RArgument) → request_parameters r ≡ parameters_given ts (arguments_of xs) → AreSoundArguments ts (arguments_of xs) → AreServed (arguments_of xs) → IsDone (request (Some r) xs)
   requested_there r xs same all served = made_sound ts looping _ _ (request_is r xs) ((record { takes = same; sound = all }, served))
+
+  -- values for parameters of kinds
+  value_sound : (k : RBase) (x : RExpr) → IsSoundStored ts (expression_of x) (base_view k) → (parameter_of ts (argument_of (given.Value (plain k) x)) ≡ Word (base_view k)) × IsSoundArgument ts (argument_of (given.Value (plain k) x)) × IsServed (argument_of (given.Value (plain k) x))
+  value_sound k x h =
+      let is = by_value_is (plain k) x in
+      (ap (parameter_of ts) is, subst (IsSoundArgument ts) (sym is) (h.stores, h.whole.shallow, h.whole.sound), subst IsServed (sym is) tt)
 
   -- the number to be written, and its width
   number_given : (r : requests.Request) (s : ℕ) (k : RBase) → kind_at t s ≡ Some (plain k) → request_parameters r ≡ Word (base_view k) ∷ Word (base_view b.Cardinal) ∷ []
@@ -151,21 +213,31 @@ module _ {t : Table} {vs : RNamed → Option RVar} {around : List ℕ} {ts : Sco
       let x = stored_there fits told all.0 all.1 s (plain k) at all.2 in
       let y = stored_there fits told all.3.0 all.3.1 cardinal (plain b.Cardinal) refl all.3.2 in
       let xs : List RArgument = given.Value (plain k) x.0 ∷ given.Value (plain b.Cardinal) y.0 ∷ [] in
-      (xs, all.3.3 ∙ (λ i. joined (joined (Some []) (x.1 i)) (y.1 i)), requested_there r xs same (x.2, (y.2, tt)) (tt, (tt, tt)))
+      let v = value_sound k x.0 x.2 in
+      let w = value_sound b.Cardinal y.0 y.2 in
+      (xs, all.3.3 ∙ (λ i. joined (joined (Some []) (x.1 i)) (y.1 i)), requested_there r xs (same ∙ (λ i. sym v.0 i ∷ sym w.0 i ∷ [])) (v.1, (w.1, tt)) (v.2, (w.2, tt)))
+
+  -- what an argument is
+  its_place : (q : RPlace) → place_in (given.Place q) ≡ Some q
+  its_place q = ap place_in (sym (given.rolls-Place q)) ∙ ap place_of_layer (out-roll-RArgument (layer.Place q))
+
+  its_value : (j : RKind) (y : RExpr) → value_in (given.Value j y) ≡ Some y
+  its_value j y = ap value_in (sym (given.rolls-Value j y)) ∙ ap value_of_layer (out-roll-RArgument (layer.Value j y))
 
   allocation_given : (way : Allocation) (h : Option (List RArgument)) → Hands P told (place address ∷ value cardinal ∷ []) nothing_handed h → (xs : List RArgument) × (h ≡ Some xs) × IsDone (allocation way xs)
   unfolding handed_over
   allocation_given way h all =
       let c = address_there fits told all.0 all.1 all.2 in
       let y = value_there fits told all.3.0 all.3.1 cardinal b.Cardinal refl refl all.3.2 in
-      (given.Place c.0 ∷ given.Value (plain b.Cardinal) y.0 ∷ [], all.3.3 ∙ (λ i. joined (joined (Some []) (c.1 i)) (y.1 i)), made_sound ts looping _ _ (allocate_is way c.0 y.0) (c.2, y.2))
+      (given.Place c.0 ∷ given.Value (plain b.Cardinal) y.0 ∷ [], all.3.3 ∙ (λ i. joined (joined (Some []) (c.1 i)) (y.1 i)), subst IsDone (sym ((λ i. allocated way (its_place c.0 i) (its_value (plain b.Cardinal) y.0 i)))) (made_sound ts looping _ _ (allocate_is way c.0 y.0) (c.2, y.2)))
 
   resident_called : (r : Resident) (h : Option (List RArgument)) → resident_built r ≡ true → Hands P told (signature r) nothing_handed h → IsDone (called r h)
   unfolding called handed_over
   resident_called resident.Write h is all =
       let x = stored_there fits told all.0 all.1 char (plain b.Character) refl all.2 in
       let xs : List RArgument = given.Value (plain b.Character) x.0 ∷ [] in
-      along (called resident.Write) h (xs, all.3 ∙ ap (joined (Some [])) x.1, requested_there q.Write xs refl (x.2, tt) (tt, tt))
+      let v = value_sound b.Character x.0 x.2 in
+      along (called resident.Write) h (xs, all.3 ∙ ap (joined (Some [])) x.1, requested_there q.Write xs (λ i. sym v.0 i ∷ []) (v.1, tt) (v.2, tt))
   resident_called resident.WriteString h is all =
       let x = string_there fits told all.0 all.1 all.2 in
       along (called resident.WriteString) h (x.0 ∷ [], all.3 ∙ ap (joined (Some [])) x.1, requested_there q.WriteString (x.0 ∷ []) (λ i. sym x.2.0 i ∷ []) (x.2.1, tt) (x.2.2, tt))
@@ -178,63 +250,43 @@ module _ {t : Table} {vs : RNamed → Option RVar} {around : List ℕ} {ts : Sco
   resident_called resident.Deallocate h is all = along (called resident.Deallocate) h (allocation_given GivesBack h all)
   resident_called _ h is all = cc
 
-  -- ---- calls of procedures of the text
-  -- what is handed over to parameters, behind what was before: it is sound, and of the shapes of their variables
-  record AreGiven (xs : List Shape) (before : List RArgument) (h : Option (List RArgument)) : Type 0 where
-    added : List RArgument
-    is : h ≡ Some (before ++ added)
-    takes : xs ≡ map (parameter_of ts) (map argument_of added)
-    sound : AreSoundArguments ts (map argument_of added)
-    single : AreSingle (map argument_of added)
+  -- ---- calls of proper procedures of the text
+  no_result : (o : Option ℕ) → agrees false (is_some o) ≡ true → o ≡ None
+  no_result None h = refl
+  no_result (Some r) h = absurd (true≢false (sym h))
 
-  handed_one : (p : Parameter) (before : List RArgument) (x : Found) (a : RArgument) → argument_given t p x ≡ Some a → handed_over t p (Some before) x ≡ Some (before ++ a ∷ [])
-  unfolding handed_over
-  handed_one p before x a is = ap (joined (Some before)) is
-
-  given_there : (ps : List Parameter) (xs : List Shape) (before : List RArgument) (h : Option (List RArgument)) → AllFine (ParameterTold t) ps → all_some (map (parameter_shape fits.shapes) ps) ≡ Some xs → Hands P told ps (Some before) h → AreGiven xs before h
-  given_there [] xs before h of lies all = record { added = []; is = all ∙ ap Some (sym (append-nil before)); takes = sym (same_Some [] xs lies); sound = tt; single = tt }
-  given_there (p ∷ ps) xs before h of lies all =
-      let first = first_some (parameter_shape fits.shapes p) (map (parameter_shape fits.shapes) ps) xs lies in
-      let a = argument_there fits told all.0 all.1 p first.value of.0 first.is all.2 in
-      let rest = given_there ps first.rest (before ++ a.argument ∷ []) h of.1 first.others (subst (λ o. Hands P told ps o h) (handed_one p before all.0 a.argument a.is) all.3) in
-      record {
-        added = a.argument ∷ rest.added;
-        is = rest.is ∙ ap Some (append_assoc before (a.argument ∷ []) rest.added);
-        takes = first.all ∙ (λ i. a.shape i ∷ rest.takes i);
-        sound = (a.sound, rest.sound);
-        single = (a.single, rest.single);
-      }
-
-  own_called : (s n levels : ℕ) (h : Option (List RArgument)) → AllFine (ParameterTold t) (parameters t s) → IsReached t ts s n levels → Hands P told (parameters t s) nothing_handed h → IsDone (own_call n levels h)
-  own_called s n levels h of r all =
-      let g = given_there (parameters t s) (parameters_of (procedure_by ts.procedures (n + 1))) [] h of (r.takes fits.shapes fits.types) all in
-      let fit : (nat_lt n 255 && nat_lt levels 256) ≡ true = grind (arith, nat_tests, r.low, r.few) in
-      along (own_call n levels) h (
+  own_called : (s n levels : ℕ) (e : Passed) → AllFine (ParameterTold t) (parameters t s) → R s n levels → n < 255 → levels < 256 → IsReady P told false s (parameters t s) e → IsDone (own_call n levels e.handed)
+  own_called s n levels e of reached low few ready =
+      let g = given_there P told (parameters t s) [] e.handed of ready.hands in
+      let c = fits.calls s n levels reached in
+      let all = all_passed fits (parameters t s) g.added (parameters_of (procedure_by ts.procedures (n + 1))) (c.takes fits.shapes fits.types) g.handed in
+      let none = no_result (result t s) (both_right (is_routine t s) _ ready.callable) in
+      along (own_call n levels) e.handed (
         g.added,
         g.is,
-        subst (λ c. IsDone (if c then Some (statement.Call (n + 1) levels g.added) else None)) (sym fit)
-            (made_sound ts looping _ _ (call_is (n + 1) levels g.added) (r.may, record { takes = g.takes; sound = g.sound }, g.single)),
+        subst (λ c. IsDone (if c then Some (statement.Call (n + 1) levels g.added) else None)) (sym (both_bytes P told n levels low few))
+            (made_sound ts looping _ _ (call_is (n + 1) levels g.added) (c.may, c.returns ∙ ap (returned t) none, record { takes = all.takes; sound = all.sound }, all.single)),
       )
 
-  statement_right : (R : ℕ → ℕ → ℕ → Type 0) → Calls t R ts → (p : Place) (c : Callee) (xs : List Argument) → CalleeTold t R c → AllFine (ArgumentTold P) xs → Right (IsThere (StatementSound ts looping)) (statement_of t p c xs)
+  statement_right : (p : Place) (c : Callee) (xs : List Argument) → CalleeTold t R c → AllFine (ArgumentTold P) xs → Right (IsThere (StatementSound ts looping)) (statement_of t p c xs)
   unfolding no_call
-  statement_right R calls p (callee.Procedure s n levels) xs h all =
-      after_right (IsThere (IsHanded P told (parameters t s))) IsDone (routine_mean t p false (of_procedure s n levels) xs) _ (passed_right P told p (of_procedure s n levels) (parameters t s) xs refl all) by
+  statement_right p (callee.Procedure s n levels) xs h all =
+      after_right (IsThere (IsReady P told false s (parameters t s))) IsDone (routine_mean t p false (of_procedure s n levels) xs) _ (passed_right P told p false (of_procedure s n levels) (parameters t s) xs refl all) by
     where
-      by : (o : Option Passed) → IsThere (IsHanded P told (parameters t s)) o → Right IsDone (call_statement (of_procedure s n levels) o, [])
+      by : (o : Option Passed) → IsThere (IsReady P told false s (parameters t s)) o → Right IsDone (call_statement (of_procedure s n levels) o, [])
       by None j = absurd j
-      by (Some e) j = λ clear. own_called s n levels e.handed h.0.0 (calls s n levels h.1) j
-  statement_right R calls p (callee.Variable s d) xs h all = uncalled P told p IsDone false (of_variable s d) xs _ (no_routine P told p false s h)
-  statement_right R calls p (callee.Resident r s) xs h all =
-      after_right (IsThere (IsHanded P told (signature r))) IsDone (routine_mean t p false (of_resident r s) xs) _ (passed_right P told p (of_resident r s) (signature r) xs h.0 all) by
+      by (Some e) j = λ clear. own_called s n levels e h.0.0 h.1 h.2 h.3 j
+  statement_right p (callee.Variable s d) xs h all = uncalled P told p IsDone false (of_variable s d) xs _ (no_routine P told p false s h)
+  statement_right p (callee.Resident r s) xs h all =
+      after_right (IsThere (IsReady P told false s (signature r))) IsDone (routine_mean t p false (of_resident r s) xs) _ (passed_right P told p false (of_resident r s) (signature r) xs h.0 all) by
     where
-      by : (o : Option Passed) → IsThere (IsHanded P told (signature r)) o → Right IsDone (call_statement (of_resident r s) o, [])
+      by : (o : Option Passed) → IsThere (IsReady P told false s (signature r)) o → Right IsDone (call_statement (of_resident r s) o, [])
       by None j = absurd j
-      by (Some e) j = λ clear. resident_called r e.handed h.2 j
-  statement_right R calls p (callee.Standard of) xs h all = procedure_right fits told looping p of xs all
-  statement_right R calls p callee.Other xs h all = λ clear. absurd (true≢false clear.0)
+      by (Some e) j = λ clear. resident_called r e.handed h.2 j.hands
+  statement_right p (callee.Standard of) xs h all = procedure_right fits told looping p of xs all
+  statement_right p callee.Other xs h all = λ clear. absurd (true≢false clear.0)
 
-  pub statement_node_right : (R : ℕ → ℕ → ℕ → Type 0) → Calls t R ts → (p : Place) (c : Option Callee) (xs : List Argument) → IsThere (CalleeTold t R) c → AllFine (ArgumentTold P) xs → Right (IsThere (StatementSound ts looping)) (statement_node t p c xs)
+  pub statement_node_right : (p : Place) (c : Option Callee) (xs : List Argument) → IsThere (CalleeTold t R) c → AllFine (ArgumentTold P) xs → Right (IsThere (StatementSound ts looping)) (statement_node t p c xs)
   unfolding statement_node
-  statement_node_right R calls p None xs h all = absurd h
-  statement_node_right R calls p (Some c) xs h all = subst (λ b. Right IsDone (if b then statement_of t p c xs else (None, []))) (sym (have_values P told xs all)) (statement_right R calls p c xs h all)
+  statement_node_right p None xs h all = absurd h
+  statement_node_right p (Some c) xs h all = subst (λ b. Right IsDone (if b then statement_of t p c xs else (None, []))) (sym (have_values P told xs all)) (statement_right p c xs h all)

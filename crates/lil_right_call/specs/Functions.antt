@@ -19,7 +19,7 @@ use Rattle.lil_report.specs.Told.{Row}
 use Rattle.lil_kinds.specs.{Forms.{span_of, has_nil, target, is_opaque, shape}, Kinds.{is_constant, is_ordinal, number, suits, compatible, outside}}
 use Rattle.lil_kinds.specs.{Operators.{word_constant, constant_of, value_by, is_integer, is_number, absolute, capital, oddness, is_odd, converted_number, converted, where_taken, function, extreme_by, extreme}, declared.found.{Applied.{Applied, TheVariants.{Refused, Outside, Gives}}, Form.Form, Found.Found}}
 use Rattle.lil_kinds.specs.declared.found.Form.TheVariants as form
-use Rattle.lil_forms.specs.{Properties.Property, Scopes.{both_left, both_right}, Values.{value_form, applied, function_by, typed, typed_by}}
+use Rattle.lil_forms.specs.{Properties.{Property, Reach}, Scopes.{both_left, both_right}, Values.{value_form, applied, function_by, typed, typed_by}}
 use Rattle.lil_call.specs.{declared.call.Argument.Argument, Procedures.{function_form, kept_form, function_depth, applied_node, no_value, no_type, of_type, of_value, of_one, ordinal_node, converted_if, of_two, of_all, function_if, function_mean, standard_node, agrees, is_function, is_extreme, takes_count}}
 use Rattle.lil_call.specs.declared.call.Argument.TheVariants as argument
 use Rattle.lil_right_type.specs.{Found.{is_scalar, HasWord, KindTold, IsBare, GoesWith, bare, IsFound}, Right.{Right, IsThere, is_so, after_right}, Typed.{Yields, either, is_character_number, kind_yields}, Types.{IsTold, IsOrdinal, ordinal_is}}
@@ -145,7 +145,7 @@ module _ (t : Table) (told : IsTold t) where
   character_number (k.Chars c) z fine h is = subst (λ z. has_number b.Character z ≡ true) (same_Some (pos c.first) z (if_some (c.length == 1) _ z is).1) (is_character_number c.first fine)
   character_number _ z fine h is = absurd (none-some z is)
 
-module _ {t : Table} {vs : RNamed → Option RVar} {around : List ℕ} (P : Property t vs around) (told : IsTold t) where
+module _ {t : Table} {vs : RNamed → Option RVar} {around : List ℕ} {R : Reach} (P : Property t vs around R) (told : IsTold t) where
   -- what a function of an operand of a depth gives, and its form
   abbrev IsGiven : ℕ → Form → Applied → Type 0
   IsGiven d x (Gives a) = KindTold t a × GoesWith P (function_depth a d) a (kept_form x a)

@@ -6,19 +6,18 @@ use Rattle.std.proofs.lemmas.{Int.ints, Option.{none-some, same_Some}, Bool.Deci
 use Rattle.lil_types.specs.{Types.{Table, char, address, meant, same}, declared.table.Parameter.Parameter}
 use Rattle.lil_declared.specs.declared.declared.RVar.{RVar}
 use Rattle.lil_resolved.specs.Kinds as kinds
-use Rattle.lil_resolved.specs.{Kinds.{Shape, Word, Address, Opened, OfCharacter, Scope, OfPointer, Workspaces, nat_of, is_there}, Resolved.shape_of, Sizes.{place_depth, depth}, Sound.{parameter_of, IsServed, IsSingle, IsSoundArgument, IsSoundStored, IsSoundTarget, IsSoundValue, IsSoundWhole}, Views.{argument_of, base_view, held_by, kind_view, expression_of, place_of}, declared.resolved.{RArgument.RArgument, RBase.RBase, RExpr.RExpr, RKind.RKind, RNamed.RNamed, RPassing.TheVariants.{ByValue, ByPlace}, RPlace.RPlace}}
+use Rattle.lil_resolved.specs.{Kinds.{Word, Opened, OfCharacter, Scope, OfPointer, Workspaces, nat_of}, Resolved.{Argument, OfArray, OfText}, Sizes.{place_depth, depth}, Sound.{parameter_of, IsServed, IsSoundArgument, IsSoundStored, IsSoundTarget, IsSoundValue, IsSoundWhole}, Views.{argument_of, of_array_is, of_text_is, base_view, kind_view, expression_of, place_of}, declared.resolved.{RArgument.RArgument, RBase.RBase, RExpr.RExpr, RKind.RKind, RNamed.RNamed, RPlace.RPlace}}
 use Rattle.lil_resolved.specs.declared.resolved.RArgument.TheVariants as given
 use Rattle.lil_resolved.specs.declared.resolved.RBase.TheVariants as b
-use Rattle.lil_shapes.specs.{BaseLaws.{same_sort, kind_base}, Pointers.lies_at, Bases.{plain, base_at, kind_at, composite_at, numbers_of, characters_in, characters_at}, ShapeSound.{mapped, word_shaped}, Shaping.there}
+use Rattle.lil_shapes.specs.{BaseLaws.{same_sort, kind_base}, Pointers.lies_at, Bases.{plain, base_at, kind_at, composite_at, numbers_of, characters_in, characters_at}}
 use Rattle.lil_scope.specs.declared.thing.Kind.{Kind}
 use Rattle.lil_scope.specs.declared.thing.Kind.TheVariants as k
 use Rattle.lil_kinds.specs.{Forms.array_parts, declared.{forms.ArrayParts.ArrayParts, found.{Form.Form, Found.Found, Located.Located}}}
 use Rattle.lil_kinds.specs.declared.found.Form.TheVariants as form
-use Rattle.lil_forms.specs.{Properties.{Property, value_kind}, Scopes.{Fits, has_shape, both_left, both_right}, Soundness.{soundness, Lies, characters_lie}, Statements.{last_of, array_as, array_given, string_given, value_as, value_by, located_in, place_given, whole_given, argument_given}, Values.typed}
-use Rattle.lil_forms.specs.Soundness as forms
+use Rattle.lil_forms.specs.{Properties.{Property, Reach, IsHanded, value_kind}, Scopes.{Fits, both_left, both_right}, Soundness.{soundness, Lies, characters_lie}, Statements.{last_of, array_as, array_given, string_given, value_as, value_by, located_in, place_given, whole_given, argument_given}, Values.typed}
 use Rattle.lil_call.specs.Passing.{has_elements, is_array_of, is_of, is_open, is_text, is_variable, is_wrong_value, is_wrong_place, is_outside, is_spelled}
 use Rattle.lil_right_type.specs.{Found.{KindTold, LiesAt, GoesWith, IsFound, ParameterTold, value, place}, Parts.{IsArray, no_kind, array_is}, Right.{IsThere, is_so}, Sound.stored_sound, Typed.{Suits, Stores, assignable_stores, stores_suits}, Types.{IsTold, IsOrdinal, meant_is, known_ordinal}}
-use Rattle.lil_right_call.specs.{Functions.number_bounds, Places.{IsVariable, variable_is, target_sound}, Told.parameter_shape, Wholes.whole_or_spelled}
+use Rattle.lil_right_call.specs.{Functions.number_bounds, Places.{IsVariable, variable_is, target_sound}, Wholes.whole_or_spelled}
 
 -- what the tests of an argument leave
 pub record IsTaken (t : Table) (p : Parameter) (x : Found) : Type 0 where
@@ -34,8 +33,66 @@ pub there_is : {A : Type 0} (P : A → Type 0) (o : Option A) → IsThere P o �
 there_is P None h = absurd h
 there_is P (Some a) h = (a, refl, h)
 
-module _ {t : Table} {vs : RNamed → Option RVar} {around : List ℕ} {ts : Scope} (fits : Fits t vs around ts) where
-  abbrev P : Property t vs around
+-- ---- arguments for the parameters of procedures
+module _ {t : Table} {vs : RNamed → Option RVar} {around : List ℕ} {R : Reach} (P : Property t vs around R) (told : IsTold t) (x : Found) (h : IsFound P x) where
+  pub place_there : (s : ℕ) → IsTaken t (place s) x → (v : IsVariable P x) × (v.at.sort ≡ s) × (argument_given t (place s) x ≡ Some (given.Place v.at.place))
+  place_there s taken =
+      let so = is_so (is_variable x.standing && is_of t s x.kind) taken.place in
+      let v : IsVariable P x = variable_is P x h (both_left (is_variable x.standing) _ so) in
+      let same : v.sort ≡ s = sym (meant_is t told v.sort) ∙ same_sort (meant t v.sort) (meant t s) (sym (ap (is_of t s) v.kind) ∙ both_right (is_variable x.standing) _ so) ∙ meant_is t told s in
+      (v, v.same ∙ same, ap (λ f. place_given (located_in f)) v.form)
+
+  pub stored_given : (s : ℕ) (j : RKind) → kind_at t s ≡ Some j → IsTaken t (value s) x → (y : RExpr) × (argument_given t (value s) x ≡ Some (given.Value j y)) × Stores P j x.depth y
+  stored_given s j at taken =
+      let y = there_is (Stores P j x.depth) (typed t s x) (assignable_stores P told s j x at h (both_right (not (is_open x.kind)) _ (is_so _ taken.value)) taken.inside) in
+      (y.0, ap (λ o. value_by t s o x) at ∙ ap (value_as j) y.1, y.2)
+
+  abbrev pub IsArgument : Parameter → Type 0
+  IsArgument p = (a : RArgument) × (argument_given t p x ≡ Some a) × IsHanded t P.place P.value p a
+
+  value_argument : (s : ℕ) (j : RKind) → kind_at t s ≡ Some j → IsTaken t (value s) x → IsArgument (value s)
+  value_argument s j at taken =
+      let y = stored_given s j at taken in
+      (given.Value j y.0, y.1, inl (record { kind = j; value = y.0; is = refl; by_value = refl; at = at; stores = y.2.0; shallow = omega (arith, h.few, y.2.1); good = y.2.2 }))
+
+  whole_argument : (s : ℕ) → kind_at t s ≡ None → lies_at t s ≡ true → IsTaken t (value s) x → IsArgument (value s)
+  whole_argument s none alive taken =
+      let composite : composite_at t s ≡ true = ap (λ o. is_some o || composite_at t s) (sym none) ∙ alive in
+      elim (whole_or_spelled P told s composite x.depth x.kind x.form h.kind h.form (both_right (not (is_open x.kind)) _ (is_so _ taken.value))) [
+        | inl v ↦ (
+          given.All v.at.place,
+          ap (λ o. value_by t s o x) none ∙ ap (λ c. if c then whole_given (located_in x.form) else None) composite ∙ ap (λ f. whole_given (located_in f)) v.is,
+          inr (inr (record { at = v.at; is = refl; by_value = refl; sort = v.lies.sort; shallow = omega (arith, h.few, v.lies.deep); good = v.lies.good })),
+        )
+        | inr v ↦ absurd (true≢false (sym (λ i. is_text (v.its i) && composite i) ∙ taken.spelled))
+      ]
+
+  place_argument : (s : ℕ) → IsTaken t (place s) x → IsArgument (place s)
+  place_argument s taken =
+      let v = place_there s taken in
+      (given.Place v.0.at.place, v.2, inr (inl (record { at = v.0.at; is = refl; by_place = refl; sort = v.1; shallow = v.0.deep; good = v.0.good })))
+
+  by_value : (s : ℕ) → lies_at t s ≡ true → IsTaken t (value s) x → IsArgument (value s)
+  by_value s alive taken = by (kind_at t s) refl
+    where
+      by : (o : Option RKind) → kind_at t s ≡ o → IsArgument (value s)
+      by None none = whole_argument s none alive taken
+      by (Some j) at = value_argument s j at taken
+
+  pub argument_there : (p : Parameter) → ParameterTold t p → IsTaken t p x → IsArgument p
+  argument_there p of taken = by p.by_place refl
+    where
+      by : (c : Bool) → p.by_place ≡ c → IsArgument p
+      by true is =
+          let same : p ≡ place p.sort = λ i. record { by_place = is i; open_array = of.closed i; sort = p.sort } in
+          subst IsArgument (sym same) (place_argument p.sort (subst (λ (q : Parameter). IsTaken t q x) same taken))
+      by false is =
+          let same : p ≡ value p.sort = λ i. record { by_place = is i; open_array = of.closed i; sort = p.sort } in
+          subst IsArgument (sym same) (by_value p.sort of.lies (subst (λ (q : Parameter). IsTaken t q x) same taken))
+
+-- ---- what resident procedures are handed
+module _ {t : Table} {vs : RNamed → Option RVar} {around : List ℕ} {R : Reach} {ts : Scope} (fits : Fits t vs around R ts) where
+  abbrev P : Property t vs around R
   P = soundness fits
 
   -- ---- values that stand alone
@@ -50,6 +107,9 @@ module _ {t : Table} {vs : RNamed → Option RVar} {around : List ℕ} {ts : Sco
     abbrev IsString : RArgument → Type 0
     IsString a = (parameter_of ts (argument_of a) ≡ Opened (Word OfCharacter)) × IsSoundArgument ts (argument_of a) × IsServed (argument_of a)
 
+    string_as : (a : RArgument) (y : Argument) → argument_of a ≡ y → parameter_of ts y ≡ Opened (Word OfCharacter) → IsSoundArgument ts y → IsServed y → IsString a
+    string_as a y is shape good served = (ap (parameter_of ts) is ∙ shape, subst (IsSoundArgument ts) (sym is) good, subst IsServed (sym is) served)
+
     -- an array of so many characters has a last one
     last_there : (q : Located) (z : ℤ) → pos 0 ≤ℤ z → z ≤ℤ pos 65535 → characters_at t q.sort ≡ Some (nat_of (z +ℤ pos 1)) → Lies fits q → place_depth (place_of q.place) ≤ 13 → IsThere IsString (array_given t q)
     last_there q (negsuc n) h few many lies shallow = absurd (omega (arith, ints))
@@ -58,7 +118,7 @@ module _ {t : Table} {vs : RNamed → Option RVar} {around : List ℕ} {ts : Sco
         let number : characters_at t q.sort ≡ Some (suc n) = many ∙ ap Some more in
         let fit : nat_le n 65535 ≡ true = grind (arith, nat_tests, ints, few) in
         subst (λ o. IsThere IsString (array_as q (last_of o))) (sym number)
-        (subst (λ c. IsThere IsString (array_as q (if c then Some n else None))) (sym fit) (refl, record { shape = characters_lie fits q (suc n) lies number; place = lies.good; shallow = shallow }, tt))
+        (subst (λ c. IsThere IsString (array_as q (if c then Some n else None))) (sym fit) (string_as (given.Array q.place n) (OfArray (place_of q.place) n) (of_array_is q.place n) refl (characters_lie fits q (suc n) lies number, shallow, lies.good) tt))
 
     array_there : (q : Located) (n d : ℕ) (p : ArrayParts) → d ≤ 12 → LiesAt P n d q → array_parts t n ≡ Some p → same t p.element char ≡ true → IsThere IsString (array_given t q)
     array_there q n d p few lies is of =
@@ -72,7 +132,7 @@ module _ {t : Table} {vs : RNamed → Option RVar} {around : List ℕ} {ts : Sco
 
     -- what goes with a string, or with an array of characters
     string_by : (d : ℕ) (a : Kind) (f : Form) → d ≤ 12 → KindTold t a → GoesWith P d a f → (is_array_of t char a || is_text a) ≡ true → IsThere IsString (string_given t f)
-    string_by d (k.Chars c) (form.Text cs) few fine goes h = (refl, goes.1, tt)
+    string_by d (k.Chars c) (form.Text cs) few fine goes h = string_as (given.Text cs) (OfText cs) (of_text_is cs) refl goes.1 tt
     string_by d (k.Chars c) _ few fine goes h = absurd goes
     string_by d (k.Of n) f few fine goes h = by (array_parts t n) refl f goes (grind (arith, nat_tests, h))
       where
@@ -99,71 +159,8 @@ module _ {t : Table} {vs : RNamed → Option RVar} {around : List ℕ} {ts : Sco
 
       -- one that may be stored where one of a kind is wanted
       pub stored_there : (s : ℕ) (j : RKind) → kind_at t s ≡ Some j → IsTaken t (value s) x → (y : RExpr) × (argument_given t (value s) x ≡ Some (given.Value j y)) × IsSoundStored ts (expression_of y) (kind_view j)
-      stored_there s j at taken =
-          let y = there_is (Stores P j x.depth) (typed t s x) (assignable_stores P told s j x at h (both_right (not (is_open x.kind)) _ (is_so _ taken.value)) taken.inside) in
-          (y.0, ap (λ o. value_by t s o x) at ∙ ap (value_as j) y.1, stored_sound fits x.depth h.few j y.0 y.2)
+      stored_there s j at taken = let y = stored_given P told x h s j at taken in (y.0, y.1, stored_sound fits x.depth h.few j y.0 y.2)
 
       -- ---- places
-      place_there : (s : ℕ) → IsTaken t (place s) x → (v : IsVariable P x) × (v.sort ≡ s) × (argument_given t (place s) x ≡ Some (given.Place v.at.place))
-      place_there s taken =
-          let so = is_so (is_variable x.standing && is_of t s x.kind) taken.place in
-          let v : IsVariable P x = variable_is P x h (both_left (is_variable x.standing) _ so) in
-          (v, sym (meant_is t told v.sort) ∙ same_sort (meant t v.sort) (meant t s) (sym (ap (is_of t s) v.kind) ∙ both_right (is_variable x.standing) _ so) ∙ meant_is t told s, ap (λ f. place_given (located_in f)) v.form)
-
       pub address_there : IsTaken t (place address) x → (q : RPlace) × (argument_given t (place address) x ≡ Some (given.Place q)) × IsSoundTarget ts (place_of q) (OfPointer Workspaces)
-      address_there taken = let v = place_there address taken in (v.0.at.place, v.2, target_sound fits x v.0 (plain b.Address) (ap (kind_at t) v.1))
-
-      -- ---- arguments for the parameters of procedures, whose variables hold this
-      pub record IsArgument (p : Parameter) (y : Shape) : Type 0 where
-        pub argument : RArgument
-        pub is : argument_given t p x ≡ Some argument
-        pub shape : y ≡ parameter_of ts (argument_of argument)
-        pub sound : IsSoundArgument ts (argument_of argument)
-        pub single : IsSingle (argument_of argument)
-
-      value_argument : (s : ℕ) (j : RKind) (y : Shape) → kind_at t s ≡ Some j → parameter_shape fits.shapes (value s) ≡ Some y → IsTaken t (value s) x → IsArgument (value s) y
-      value_argument s j y at lies taken =
-          let v = stored_there s j at taken in
-          let held = mapped (held_by ByValue) (there (slice_get fits.shapes s)) y lies in
-          let here = forms.there_is (slice_get fits.shapes s) held.0 held.1 in
-          record { argument = given.Value j v.0; is = v.1; shape = sym held.2 ∙ word_shaped t fits.shapes s held.0 (has_shape fits s held.0 here.0) j at; sound = v.2; single = tt }
-
-      whole_argument : (s : ℕ) (y : Shape) → kind_at t s ≡ None → lies_at t s ≡ true → parameter_shape fits.shapes (value s) ≡ Some y → IsTaken t (value s) x → IsArgument (value s) y
-      whole_argument s y none alive lies taken =
-          let composite : composite_at t s ≡ true = ap (λ o. is_some o || composite_at t s) (sym none) ∙ alive in
-          let held = mapped (held_by ByValue) (there (slice_get fits.shapes s)) y lies in
-          let here = forms.there_is (slice_get fits.shapes s) held.0 held.1 in
-          elim (whole_or_spelled P told s composite x.depth x.kind x.form h.kind h.form (both_right (not (is_open x.kind)) _ (is_so _ taken.value))) [
-            | inl v ↦
-                let same : held.0 ≡ shape_of ts (place_of v.at.place) = same_Some held.0 (shape_of ts (place_of v.at.place)) (sym here.0 ∙ ap (slice_get fits.shapes) (sym v.lies.sort) ∙ v.lies.good.shape) in
-                record { argument = given.All v.at.place; is = ap (λ o. value_by t s o x) none ∙ ap (λ f. whole_given (located_in f)) v.is; shape = sym held.2 ∙ same; sound = record { there = sym (ap is_there same) ∙ here.1; place = v.lies.good.good; shallow = omega (arith, h.few, v.lies.deep) }; single = tt }
-            | inr v ↦ absurd (true≢false (sym (λ i. is_text (v.its i) && composite i) ∙ taken.spelled))
-          ]
-
-      place_argument : (s : ℕ) (y : Shape) → parameter_shape fits.shapes (place s) ≡ Some y → IsTaken t (place s) x → IsArgument (place s) y
-      place_argument s y lies taken =
-          let v = place_there s taken in
-          let at = v.0.at in
-          let held = mapped (held_by ByPlace) (there (slice_get fits.shapes s)) y lies in
-          let here = forms.there_is (slice_get fits.shapes s) held.0 held.1 in
-          let same : held.0 ≡ shape_of ts (place_of at.place) = same_Some held.0 (shape_of ts (place_of at.place)) (sym here.0 ∙ ap (slice_get fits.shapes) (sym (v.0.same ∙ v.1)) ∙ v.0.good.shape) in
-          record { argument = given.Place at.place; is = v.2; shape = sym held.2 ∙ ap Address same; sound = record { there = sym (ap is_there same) ∙ here.1; place = v.0.good.good; shallow = v.0.deep }; single = tt }
-
-      by_value : (s : ℕ) (y : Shape) → lies_at t s ≡ true → parameter_shape fits.shapes (value s) ≡ Some y → IsTaken t (value s) x → IsArgument (value s) y
-      by_value s y alive lies taken = by (kind_at t s) refl
-        where
-          by : (o : Option RKind) → kind_at t s ≡ o → IsArgument (value s) y
-          by None none = whole_argument s y none alive lies taken
-          by (Some j) at = value_argument s j y at lies taken
-
-      pub argument_there : (p : Parameter) (y : Shape) → ParameterTold t p → parameter_shape fits.shapes p ≡ Some y → IsTaken t p x → IsArgument p y
-      argument_there p y of lies taken = by p.by_place refl
-        where
-          by : (c : Bool) → p.by_place ≡ c → IsArgument p y
-          by true is =
-              let same : p ≡ place p.sort = λ i. record { by_place = is i; open_array = of.closed i; sort = p.sort } in
-              subst (λ (q : Parameter). IsArgument q y) (sym same) (place_argument p.sort y (subst (λ (q : Parameter). parameter_shape fits.shapes q ≡ Some y) same lies) (subst (λ (q : Parameter). IsTaken t q x) same taken))
-          by false is =
-              let same : p ≡ value p.sort = λ i. record { by_place = is i; open_array = of.closed i; sort = p.sort } in
-              subst (λ (q : Parameter). IsArgument q y) (sym same)
-              (by_value p.sort y of.lies (subst (λ (q : Parameter). parameter_shape fits.shapes q ≡ Some y) same lies) (subst (λ (q : Parameter). IsTaken t q x) same taken))
+      address_there taken = let v = place_there P told x h address taken in (v.0.at.place, v.2, target_sound fits x v.0 (plain b.Address) (ap (kind_at t) (sym v.0.same ∙ v.1)))

@@ -9,11 +9,11 @@ use Rattle.lil_kinds.specs.declared.found.Form.TheVariants as form
 use Rattle.lil_kinds.specs.declared.found.Standing.TheVariants as standing
 use Rattle.lil_resolved.specs.{Kinds.Scope, Sizes.place_depth, Sound.IsSoundTarget, Views.{kind_view, place_of}, declared.resolved.{RKind.RKind, RNamed.RNamed}}
 use Rattle.lil_shapes.specs.Bases.{kind_at}
-use Rattle.lil_forms.specs.{declared.places.Cell.Cell, Places.{cell_as, cell}, Properties.Property, Scopes.Fits, Soundness.{soundness, target}, Statements.located_in}
+use Rattle.lil_forms.specs.{declared.places.Cell.Cell, Places.{cell_as, cell}, Properties.{Property, Reach}, Scopes.Fits, Soundness.{soundness, target}, Statements.located_in}
 use Rattle.lil_call.specs.Passing.{is_variable}
 use Rattle.lil_right_type.specs.Found.{GoesWith, HasPlace, IsFound}
 
-module _ {t : Table} {vs : RNamed → Option RVar} {around : List ℕ} (P : Property t vs around) (x : Found) where
+module _ {t : Table} {vs : RNamed → Option RVar} {around : List ℕ} {R : Reach} (P : Property t vs around R) (x : Found) where
   -- a variable is a place of a type
   pub record IsVariable : Type 0 where
     pub sort : ℕ
@@ -41,5 +41,5 @@ module _ {t : Table} {vs : RNamed → Option RVar} {around : List ℕ} (P : Prop
   cell_is v j is = ap (λ f. cell t (located_in f)) v.form ∙ ap (cell_as v.at) (ap (kind_at t) v.same ∙ is) ∙ ap (λ s. Some (record { place = v.at.place; kind = j; sort = s })) v.same
 
 -- values may be stored there
-pub target_sound : {t : Table} {vs : RNamed → Option RVar} {around : List ℕ} {ts : Scope} (fits : Fits t vs around ts) (x : Found) (v : IsVariable (soundness fits) x) (j : RKind) → kind_at t v.sort ≡ Some j → IsSoundTarget ts (place_of v.at.place) (kind_view j)
+pub target_sound : {t : Table} {vs : RNamed → Option RVar} {around : List ℕ} {R : Reach} {ts : Scope} (fits : Fits t vs around R ts) (x : Found) (v : IsVariable (soundness fits) x) (j : RKind) → kind_at t v.sort ≡ Some j → IsSoundTarget ts (place_of v.at.place) (kind_view j)
 target_sound fits x v j is = target fits v.at j (ap (kind_at _) v.same ∙ is) v.deep v.good

@@ -16,7 +16,7 @@ use Rattle.lil_shapes.specs.{BaseLaws.same_sort, Bases.{plain, base_at}, ListLaw
 use Rattle.lil_scope.specs.declared.thing.Kind.{Kind}
 use Rattle.lil_scope.specs.declared.thing.Kind.TheVariants as k
 use Rattle.lil_kinds.specs.{Forms.{span_of, target}, Kinds.{is_ordinal, suits, compatible}, declared.found.Found.Found}
-use Rattle.lil_forms.specs.{Properties.Property, Scopes.Fits, Soundness.soundness, StatementSound.{StatementSound, made_sound}, Values.{constant, typed, typed_by}}
+use Rattle.lil_forms.specs.{Properties.{Property, Reach}, Scopes.Fits, Soundness.soundness, StatementSound.{StatementSound, made_sound}, Values.{constant, typed, typed_by}}
 use Rattle.lil_forms.specs.Statements.{located_in, changed_by, changed_with, changed, changed_at, changed_by_one, turned_by, turned_in, turned_at, turned, created_as, created_at, created, disposed_at, disposed}
 use Rattle.lil_call.specs.{declared.call.Argument.Argument, Passing.is_variable}
 use Rattle.lil_call.specs.Procedures.{is_function, takes_count, standard_node, no_value, base_of_set, is_of_wrong_type, is_no_pointer, variable_node, counted_in, is_no_element, is_wrong_operand, operand_node, deep_node, done_if, variable_statement, operand_statement, no_argument, with_variable, with_operand, by_one, by_two, by_all, procedure_if, procedure_mean}
@@ -68,8 +68,8 @@ record Changes (t : Table) (of : Standard) (x : Found) (c : Bool) : Type 0 where
 abbrev Takes : Table → Standard → Kind → Found → Bool → Type 0
 Takes t of v y c = (c ≡ true) × (is_wrong_operand t of v y.kind ≡ false)
 
-module _ {t : Table} {vs : RNamed → Option RVar} {around : List ℕ} {ts : Scope} (fits : Fits t vs around ts) (told : IsTold t) (looping : Bool) where
-  abbrev P : Property t vs around
+module _ {t : Table} {vs : RNamed → Option RVar} {around : List ℕ} {R : Reach} {ts : Scope} (fits : Fits t vs around R ts) (told : IsTold t) (looping : Bool) where
+  abbrev P : Property t vs around R
   P = soundness fits
 
   abbrev IsDone : Option RStmt → Type 0

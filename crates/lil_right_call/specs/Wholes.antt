@@ -11,10 +11,10 @@ use Rattle.lil_scope.specs.declared.thing.{Chars.Chars, Kind.Kind}
 use Rattle.lil_scope.specs.declared.thing.Kind.TheVariants as k
 use Rattle.lil_kinds.specs.{Kinds.{suits, passes, compatible, assignable, holds}, declared.found.{Form.Form, Located.Located}}
 use Rattle.lil_kinds.specs.declared.found.Form.TheVariants as form
-use Rattle.lil_forms.specs.{Properties.Property, Scopes.{both_left, both_right}}
+use Rattle.lil_forms.specs.{Properties.{Property, Reach}, Scopes.{both_left, both_right}}
 use Rattle.lil_right_type.specs.{Found.{KindTold, LiesAt, GoesWith, TextTold}, Parts.{no_kind, has_nil_is, whole_is, or_of}, Typed.either, Types.{IsTold, HasSpan, known_ordinal}}
 
-module _ {t : Table} {vs : RNamed → Option RVar} {around : List ℕ} (P : Property t vs around) (told : IsTold t) (s : ℕ) (composite : composite_at t s ≡ true) where
+module _ {t : Table} {vs : RNamed → Option RVar} {around : List ℕ} {R : Reach} (P : Property t vs around R) (told : IsTold t) (s : ℕ) (composite : composite_at t s ≡ true) where
   no_base : (k : RBase) → base_at t (base t s) ≡ Some k → ⊥
   no_base k is = let none = no_kind t told s composite in none-some k (sym none.1 ∙ sym (ap (base_at t) none.0) ∙ is)
 

@@ -11,7 +11,7 @@ use Rattle.lil_check_value.specs.Values.{asked_means}
 use Rattle.lil_check_decl.specs.Constants.{Meant, with_text, if_constant, constant_node, constant_step}
 use Rattle.lil_shapes.specs.ShapeSound.{earlier}
 use Rattle.lil_forms.specs.{Properties.nothing, Variables.seen}
-use Rattle.lil_right_type.specs.{Right.{Right, IsThere, after_right, is_so}, Found.{KindTold, GoesWith, IsKnown}}
+use Rattle.lil_right_type.specs.{Right.{Right, IsThere, after_right, is_so}, Found.{reach, KindTold, GoesWith, IsKnown}}
 use Rattle.lil_right_value.specs.Values.{asked_right}
 use Rattle.lil_right_sort.specs.{Growth.{Few, Grown, last_there, IsThing, Declared, bound_declared, texts_declared}, Simple.{Later, Follows}}
 
@@ -34,7 +34,7 @@ module _ (e : Env) (h : Declared e) where
   text_declared : (cs : List ℕ) → Declared (with_text e cs)
   text_declared cs = texts_declared e h (e.texts ++ cs ∷ []) (λ i ds is. earlier e.texts (cs ∷ []) i ds is)
 
-  kind_meant : (d : ℕ) (kind : Kind) (f : Form) → is_constant kind ≡ true → KindTold e.types kind → GoesWith (nothing e.types (seen e) e.withs) d kind f → let m = if_constant e f kind in Declared m.0 × IsThing m.0 m.0.scopes.inner m.1
+  kind_meant : (d : ℕ) (kind : Kind) (f : Form) → is_constant kind ≡ true → KindTold e.types kind → GoesWith (nothing e.types (seen e) e.withs (reach e)) d kind f → let m = if_constant e f kind in Declared m.0 × IsThing m.0 m.0.scopes.inner m.1
   unfolding is_constant
   kind_meant d (k.Whole z) f is told goes = (h, ((told, tt), (tt, tt)))
   kind_meant d (k.Scalar s w) f is told goes = (h, ((told, tt), (tt, tt)))
@@ -72,5 +72,5 @@ node_meant e f b (Some a) there clear =
 
 pub constant_behind : (e f : Env) (c : Constant) → Behind e f → Right (Behind e) (constant_step f c)
 constant_behind e f c b = after_right (λ o. Few f.types → IsThere (IsKnown f) o) (Behind e) (asked_means f c.value) (λ o. after (constant_node f o) (λ m. bind m.0 c.name m.1))
-    (λ clear few. asked_right f (nothing f.types (seen f) f.withs) (b.1 few).told c.value clear)
+    (λ clear few. asked_right f (nothing f.types (seen f) f.withs (reach f)) (b.1 few).told c.value clear)
     (λ o there. after_right (ConstantMeant e) (Behind e) (constant_node f o) (λ m. bind m.0 c.name m.1) (node_meant e f b o there) (λ m meant. bind_behind e m.0 c.name m.1 meant))

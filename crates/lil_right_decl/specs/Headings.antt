@@ -1,30 +1,32 @@
 -- Headings in which no test finds a fault: a procedure with its parameters, and what is declared inside of it.
 use Rattle.std.proofs.Common.{◌≡◌, ℕ, ◌+◌, ◌<◌, Bool, true, false, List, [], ◌∷◌, ◌++◌, length, slice_get, Option, Some, None, IfSome, if◌then◌else◌, refl, sym, ap, subst, ◌∙◌, ⊎_elim, arith, true≢false, length-append}
-use Rattle.std.specs.Prelude.{is_none}
+use Rattle.std.specs.Prelude.{is_none, is_some, ◌||◌}
 use Rattle.std.specs.List.{list_any}
-use Rattle.std.proofs.lemmas.{Bool.{or_parts, Decides.nat_tests}, List.length_push, Option.slice_get_within}
+use Rattle.std.proofs.lemmas.{Bool.Decides.nat_tests, List.length_push, Option.slice_get_within}
 use Rattle.lil_text.specs.declared.tree.{Qualident.Qualident}
 use Rattle.lil_language.specs.declared.{tree.Stmt.Stmt, unit.{Heading.Heading}}
-use Rattle.lil_types.specs.{Types.{Table, entry}, Adding.{next, own, added, added_number}, declared.table.{Facts.Facts, Parameter.Parameter, TypeForm.TypeForm}}
+use Rattle.lil_types.specs.{Types.{Table, entry}, Adding.{next, own, added, added_number}, declared.table.{Facts.Facts, Parameter.Parameter, TypeEntry.TypeEntry, TypeForm.TypeForm}}
 use Rattle.lil_types.specs.declared.table.TypeForm.TheVariants as form
 use Rattle.lil_declared.specs.declared.declared.{RProc.RProc, RVar.RVar}
-use Rattle.lil_report.specs.Told.{after, walk}
-use Rattle.lil_kinds.specs.Forms.{parameters, result}
-use Rattle.lil_shapes.specs.{ListLaws.AllFine, Pointers.lies_at, ShapeSound.{at_end, earlier}}
+use Rattle.lil_base.specs.declared.fault.Place.{Place}
+use Rattle.lil_report.specs.Told.{Row, after, walk}
+use Rattle.lil_resolved.specs.declared.resolved.RKind.{RKind}
+use Rattle.lil_kinds.specs.Forms.{form_in, is_form, of_form, shape, is_record_form, is_record, array_of, array_parts, parameters, result}
+use Rattle.lil_shapes.specs.{Bases.{kind_at, is_composite, composite_by, composite_at}, ListLaws.AllFine, Pointers.lies_at, ShapeSound.{at_end, earlier}}
 use Rattle.lil_forms.specs.Scopes.{fine_more}
 use Rattle.lil_scope.specs.{Names.{Names, look_in, inner_or, block_by, block_at, find_in, bound, bound_at, bind_at, with_local, locals_in, inside, entered, outside, level, chain}, declared.{env.Env.Env, thing.{Entry.Entry, Thing.Thing, Variable.Variable}}}
 use Rattle.lil_scope.specs.declared.thing.Thing.TheVariants as thing
 use Rattle.lil_scope.specs.Names as names
-use Rattle.lil_check_value.specs.{Looks.{not_built}}
-use Rattle.lil_check_type.specs.{declared.routines.Parameters.Parameters, Made.{Made, type_node, form_node}, Records.{no_parameters, result_means, procedure_form}}
-use Rattle.lil_check_decl.specs.{Decls.{Means, procedure_means}, Headings.{Headed, section_step, home_at, procedure_thing, with_procedure, numbered_node, named_means, is_open, has_more, heading_means}}
+use Rattle.lil_check_value.specs.{Looks.{type_named, not_built}}
+use Rattle.lil_check_type.specs.{declared.{named.NamedType.{NamedType, TheVariants.{Absent, Given, Faulty}}, routines.Parameters.Parameters}, Made.{Made, type_node, form_node}, Records.{is_structure, no_parameters, result_node, result_means, procedure_form}}
+use Rattle.lil_check_decl.specs.{Decls.{Means, procedure_means}, Headings.{Headed, section_step, home_at, procedure_thing, with_procedure, numbered_node, named_means, is_open, any_open, heading_means}}
 use Rattle.lil_check_stmt.specs.Texts.{Texts}
-use Rattle.lil_right_type.specs.{Right.{Right, after_right}, Found.{ParameterTold, HeadingTold, AreHeaded}, Homes.{HasPassing, IsHome, OnPath, IsParameter, Longer, last_locals, homed_procedure, stands_stays, stands_inside}}
+use Rattle.lil_right_type.specs.{Right.{Clear, Right, after_right, clear_left, clear_right}, Types.{IsTold, meant_is}, Found.{ParameterTold, ResultTold, HeadingTold, AreHeaded}, Homes.{HasPassing, IsHome, OnPath, IsParameter, Longer, last_locals, homed_procedure, stands_stays, stands_inside}}
 use Rattle.lil_right_type.specs.Homes as homes
-use Rattle.lil_right_value.specs.Names.{Told, look_is, bound_at_is}
-use Rattle.lil_right_sort.specs.{Growth.{all_then, fine_at, Few, few_before, added_grown, grown_kept, added_entry, entry_below, entry_shape, parameter_stays, shape_parameters, last_there, IsIn, AllLie, AllHeaded, IsProper, Declared, declared_added}, Simple.{Begun, walk_keeps}}
+use Rattle.lil_right_value.specs.Names.{Lies, Told, look_is, bound_at_is}
+use Rattle.lil_right_sort.specs.{Growth.{all_then, fine_at, Few, few_before, added_grown, grown_kept, added_entry, entry_below, entry_shape, parameter_stays, result_stays, shape_parameters, last_there, IsIn, AllLie, AllHeaded, HasHeading, Declared, declared_added}, Simple.{Begun, walk_keeps}}
 use Rattle.lil_right_decl.specs.Constants.{Behind}
-use Rattle.lil_right_decl.specs.Parameters.{local_same, paired_lie, paired_headed, all_built, k, with_parts, IsNamed, ArePassed, IsHeading, none_yet, section_right}
+use Rattle.lil_right_decl.specs.Parameters.{local_same, paired_lie, paired_headed, all_built, k, with_parts, IsNamed, ArePassed, IsHeading, none_yet, type_there, section_right}
 
 -- ---- what is declared behind something, with the procedures of these texts, each of which has a block
 abbrev pub IsText : Option (List Stmt) → Type 0
@@ -67,6 +69,39 @@ after_none e f b = record {
   told = b.1;
 }
 
+-- ---- results: an array or a record is none
+structure_form : (o : Option TypeEntry) → composite_by o ≡ true → (is_form is_record_form (form_in o) || is_some (of_form array_of (form_in o))) ≡ true
+structure_form None h = absurd (true≢false (sym h))
+structure_form (Some x) h = by x.form h
+  where
+    by : (f : TypeForm) → is_composite f ≡ true → (is_record_form f || is_some (array_of f)) ≡ true
+    by (form.Array i e) h = refl
+    by (form.Record xs) h = refl
+    by _ h = absurd (true≢false (sym h))
+
+structure_is : (t : Table) → IsTold t → (n : ℕ) → composite_at t n ≡ true → is_structure t n ≡ true
+unfolding is_record array_parts shape
+structure_is t told n h = ap (λ m. is_form is_record_form (form_in (entry t m)) || is_some (of_form array_of (form_in (entry t m)))) (meant_is t told n) ∙ structure_form (entry t n) h
+
+-- what is named by a type that is no structure has a kind
+result_told : (t : Table) → IsTold t → (r : ℕ) → lies_at t r ≡ true → is_structure t r ≡ false → ResultTold t (Some r)
+result_told t told r lies plain = by (kind_at t r) refl
+  where
+    by : (o : Option RKind) → kind_at t r ≡ o → ResultTold t (Some r)
+    by (Some k) is = (k, is)
+    by None is = absurd (true≢false (sym (structure_is t told r (ap (λ o. is_some o || composite_at t r) (sym is) ∙ lies)) ∙ plain))
+
+-- a phrase behind one of two parts
+both_right : {A B C : Type 0} (P : A → Type 0) (Q : C → Type 0) (m : A × List Row) (k : A → B × List Row) (f : B → C × List Row) → Right P m → ((a : A) → P a → Right Q (after (k a) f)) → Right Q (after (after m k) f)
+unfolding after
+both_right P Q m k f h g clear =
+    let outer = clear_left (m.1 ++ (k m.0).1) (f (k m.0).0).1 clear in
+    g m.0 (h (clear_left m.1 (k m.0).1 outer)) (clear_both (k m.0).1 (f (k m.0).0).1 (clear_right m.1 (k m.0).1 outer) (clear_right (m.1 ++ (k m.0).1) (f (k m.0).0).1 clear))
+  where
+    clear_both : (rs ss : List Row) → Clear rs → Clear ss → Clear (rs ++ ss)
+    clear_both [] ss h j = j
+    clear_both (r ∷ rs) ss h j = (h.0, clear_both rs ss h.1 j)
+
 -- ---- the heading
 is_there : (o : Option ℕ) → is_none o ≡ false → (n : ℕ) × (o ≡ Some n)
 is_there None h = absurd (true≢false h)
@@ -80,49 +115,49 @@ pub record IsHeaded (e f : Env) : Type 0 where
   pub told : Begun f
 
 module _ (e : Env) (begun : Begun e) (h : Heading) where
-  -- the procedure's type, behind these parameters
-  abbrev proper : Parameters → TypeForm
-  proper ps = form.Procedure ps.list None
+  -- the procedure's type, behind these parameters, with this result
+  abbrev typed : Parameters → Option ℕ → TypeForm
+  typed ps r = form.Procedure ps.list r
 
-  abbrev u : Parameters → Table
-  u ps = added e.types (own e.types) (proper ps)
+  abbrev u : Parameters → Option ℕ → Table
+  u ps r = added e.types (own e.types) (typed ps r)
 
   -- the procedure of this type, whose name is bound
-  abbrev headed : Parameters → List Names → List (List RVar) → ℕ → Env
-  headed ps bs ls n = with_procedure h.name.name (k e) (Some n) (names.with_blocks (record (with_parts e bs ls) { types = u ps }) (bound_at bs e.scopes.inner h.name.name (names.entry (procedure_thing (k e) (Some n) e) h.name.place)))
+  abbrev headed : Parameters → Option ℕ → List Names → List (List RVar) → ℕ → Env
+  headed ps r bs ls n = with_procedure h.name.name (k e) (Some n) (names.with_blocks (record (with_parts e bs ls) { types = u ps r }) (bound_at bs e.scopes.inner h.name.name (names.entry (procedure_thing (k e) (Some n) e) h.name.place)))
 
-  module _ (ps : Parameters) (bs : List Names) (ls : List (List RVar)) (n : ℕ) (given : added_number e.types (proper ps) ≡ Some n) (room : length e.procedures < 250) (few : Few (u ps)) (p : ArePassed e bs ls ps) (none : list_any is_open ps.list ≡ false) where
+  module _ (ps : Parameters) (r : Option ℕ) (bs : List Names) (ls : List (List RVar)) (n : ℕ) (given : added_number e.types (typed ps r) ≡ Some n) (room : length e.procedures < 250) (few : Few (u ps r)) (p : ArePassed e bs ls ps) (none : list_any is_open ps.list ≡ false) (returns : ResultTold e.types r) where
     before : Declared e
-    before = begun (few_before e.types (u ps) (added_grown e.types (own e.types) (proper ps)) few)
+    before = begun (few_before e.types (u ps r) (added_grown e.types (own e.types) (typed ps r)) few)
 
     abbrev base : Env
-    base = record e { types = u ps }
+    base = record e { types = u ps r }
 
     d : Declared base
-    d = declared_added e before (own e.types) (proper ps) tt few
+    d = declared_added e before (own e.types) (typed ps r) tt few
 
-    built : AllFine (ParameterTold (u ps)) ps.list
-    built = all_then (ParameterTold e.types) (ParameterTold (u ps)) (parameter_stays e.types (u ps) before.told.types (grown_kept e.types (u ps) (added_grown e.types (own e.types) (proper ps)))) ps.list
+    built : AllFine (ParameterTold (u ps r)) ps.list
+    built = all_then (ParameterTold e.types) (ParameterTold (u ps r)) (parameter_stays e.types (u ps r) before.told.types (grown_kept e.types (u ps r) (added_grown e.types (own e.types) (typed ps r)))) ps.list
         (all_built e.types ps.list p.lie none)
 
-    lie : AllLie HasPassing (u ps) p.own
-    lie = paired_lie (u ps) ps.list p.own p.paired built
+    lie : AllLie HasPassing (u ps r) p.own
+    lie = paired_lie (u ps r) ps.list p.own p.paired built
 
-    its_entry : (f : Facts) × (entry (u ps) n ≡ Some (record { origin = own e.types; form = proper ps; facts = f }))
-    its_entry = added_entry e.types (own e.types) (proper ps) n given
+    its_entry : (f : Facts) × (entry (u ps r) n ≡ Some (record { origin = own e.types; form = typed ps r; facts = f }))
+    its_entry = added_entry e.types (own e.types) (typed ps r) n given
 
-    signature : (parameters (u ps) n ≡ ps.list) × (result (u ps) n ≡ None)
-    signature = shape_parameters (u ps) n ps.list None (entry_shape (u ps) d.told.types n _ its_entry.1)
+    signature : (parameters (u ps r) n ≡ ps.list) × (result (u ps r) n ≡ r)
+    signature = shape_parameters (u ps r) n ps.list r (entry_shape (u ps r) d.told.types n _ its_entry.1)
 
-    heading : HeadingTold (u ps) n
-    heading = (subst (AllFine (ParameterTold (u ps))) (sym signature.0) built, signature.1)
+    heading : HeadingTold (u ps r) n
+    heading = (subst (AllFine (ParameterTold (u ps r))) (sym signature.0) built, subst (ResultTold (u ps r)) (sym signature.1) (result_stays e.types (u ps r) before.told.types (grown_kept e.types (u ps r) (added_grown e.types (own e.types) (typed ps r))) r returns))
 
-    below : n < next (u ps)
-    below = entry_below (u ps) n _ its_entry.1
+    below : n < next (u ps r)
+    below = entry_below (u ps r) n _ its_entry.1
 
     -- names of the block are those of the parameters
-    it_lies : (v : Variable) (its : RVar) → slice_get p.own v.number ≡ Some its → (lies_at (u ps) its.sort ≡ true) × HasPassing its.mode
-    it_lies v its there = fine_at (λ (v : RVar). (lies_at (u ps) v.sort ≡ true) × HasPassing v.mode) p.own v.number its lie there
+    it_lies : (v : Variable) (its : RVar) → slice_get p.own v.number ≡ Some its → (lies_at (u ps r) its.sort ≡ true) × HasPassing its.mode
+    it_lies v its there = fine_at (λ (v : RVar). (lies_at (u ps r) v.sort ≡ true) × HasPassing v.mode) p.own v.number its lie there
 
     parameter : (m : List ℕ) (x : Thing) → look_in p.block m ≡ Some x → IsParameter p.own (length e.scopes.outer + 1) x
     parameter m x is = by x (subst (λ (o : Option Thing). IfSome o (IsNamed e p.own)) is (look_is (IsNamed e p.own) p.block m p.named))
@@ -134,22 +169,22 @@ module _ (e : Env) (begun : Begun e) (h : Heading) where
     abbrev its : RProc
     its = homes.own e.scopes.blocks e.procedures e.variables e.locals e.scopes.outer e.scopes.inner e.procedure d.told.homed d.told.stands room h.name.name n p.block p.own parameter
 
-    name_told : (x : Thing) → IsNamed e p.own x → Told base x × IsIn (u ps) x
-    name_told (thing.Variable v) j = let l = it_lies v j.1.0 j.1.1 in ((subst HasPassing j.1.3 l.1, sym (ap (lies_at (u ps)) j.1.2) ∙ l.0), tt)
+    name_told : (x : Thing) → IsNamed e p.own x → Told base x × IsIn (u ps r) x
+    name_told (thing.Variable v) j = let l = it_lies v j.1.0 j.1.1 in ((subst HasPassing j.1.3 l.1, sym (ap (lies_at (u ps r)) j.1.2) ∙ l.0), tt)
     name_told _ j = absurd j
 
     abbrev new : Entry
     new = names.entry (procedure_thing (k e) (Some n) e) h.name.place
 
-    all_headed : AllHeaded (u ps) (e.procedures ++ its ∷ []) (e.locals ++ p.own ∷ [])
+    all_headed : AllHeaded (u ps r) (e.procedures ++ its ∷ []) (e.locals ++ p.own ∷ [])
     all_headed i q is = ⊎_elim
-        (λ (old : slice_get e.procedures i ≡ Some q). subst (λ (vs : List RVar). AreHeaded (parameters (u ps) q.sort) vs) (sym (local_same e.locals p.own i (omega (arith, slice_get_within e.procedures i q old, d.told.homed.each)))) (d.headed i q old))
-        (λ (new : (i ≡ length e.procedures) × (its ≡ q)). subst (λ (q : RProc). AreHeaded (parameters (u ps) q.sort) (locals_in (e.locals ++ p.own ∷ []) i)) new.1
-        (subst (λ (vs : List RVar). AreHeaded (parameters (u ps) n) vs) (sym (ap (locals_in (e.locals ++ p.own ∷ [])) (new.0 ∙ sym d.told.homed.each) ∙ last_locals p.own e.locals))
-        (subst (λ (xs : List Parameter). AreHeaded xs p.own) (sym signature.0) (paired_headed (u ps) ps.list p.own p.paired built))))
+        (λ (old : slice_get e.procedures i ≡ Some q). subst (λ (vs : List RVar). AreHeaded (parameters (u ps r) q.sort) vs) (sym (local_same e.locals p.own i (omega (arith, slice_get_within e.procedures i q old, d.told.homed.each)))) (d.headed i q old))
+        (λ (new : (i ≡ length e.procedures) × (its ≡ q)). subst (λ (q : RProc). AreHeaded (parameters (u ps r) q.sort) (locals_in (e.locals ++ p.own ∷ []) i)) new.1
+        (subst (λ (vs : List RVar). AreHeaded (parameters (u ps r) n) vs) (sym (ap (locals_in (e.locals ++ p.own ∷ [])) (new.0 ∙ sym d.told.homed.each) ∙ last_locals p.own e.locals))
+        (subst (λ (xs : List Parameter). AreHeaded xs p.own) (sym signature.0) (paired_headed (u ps r) ps.list p.own p.paired built))))
         (at_end e.procedures its q i is)
 
-    last_declared : Declared (headed ps (e.scopes.blocks ++ p.block ∷ []) (e.locals ++ p.own ∷ []) n)
+    last_declared : Declared (headed ps r (e.scopes.blocks ++ p.block ∷ []) (e.locals ++ p.own ∷ []) n)
     last_declared = record {
       told = record {
         types = d.told.types;
@@ -158,56 +193,77 @@ module _ (e : Env) (begun : Begun e) (h : Heading) where
         homed = homed_procedure e.scopes.blocks e.procedures e.variables e.locals e.scopes.outer e.scopes.inner e.procedure d.told.homed d.told.stands room h.name.name n p.block p.own parameter h.name.name new refl;
         stands = stands_stays e.procedures (e.procedures ++ its ∷ []) (λ i q is. earlier e.procedures (its ∷ []) i q is) e.scopes.outer e.scopes.inner e.procedure (omega (arith, length_push e.procedures its)) d.told.stands;
       };
-      residents = bound_at_is (IsIn (u ps)) (e.scopes.blocks ++ p.block ∷ []) e.scopes.inner h.name.name new (fine_more _ e.scopes.blocks p.block d.residents (all_then _ _ (λ (x : List ℕ × Entry) j. (name_told x.1.thing j).1) p.block p.named)) below;
-      variables = (d.variables.0, fine_more (AllLie HasPassing (u ps)) e.locals p.own d.variables.1 lie);
-      proper = fine_more (IsProper (u ps)) e.procedures its d.proper (below, heading);
+      residents = bound_at_is (IsIn (u ps r)) (e.scopes.blocks ++ p.block ∷ []) e.scopes.inner h.name.name new (fine_more _ e.scopes.blocks p.block d.residents (all_then _ _ (λ (x : List ℕ × Entry) j. (name_told x.1.thing j).1) p.block p.named)) below;
+      variables = (d.variables.0, fine_more (AllLie HasPassing (u ps r)) e.locals p.own d.variables.1 lie);
+      headings = fine_more (HasHeading (u ps r)) e.procedures its d.headings (below, heading);
       headed = all_headed;
     }
 
-    headed_told : Declared (headed ps bs ls n)
-    headed_told = subst (λ (ls : List (List RVar)). Declared (headed ps bs ls n)) (sym p.locals_are) (subst (λ (bs : List Names). Declared (headed ps bs (e.locals ++ p.own ∷ []) n)) (sym p.blocks_are) last_declared)
+    headed_told : Declared (headed ps r bs ls n)
+    headed_told = subst (λ (ls : List (List RVar)). Declared (headed ps r bs ls n)) (sym p.locals_are) (subst (λ (bs : List Names). Declared (headed ps r bs (e.locals ++ p.own ∷ []) n)) (sym p.blocks_are) last_declared)
 
-  -- ---- behind its parameters
+  -- ---- behind its parameters, and its result
   module _ (ps : Parameters) (bs : List Names) (ls : List (List RVar)) (told : Few e.types → ArePassed e bs ls ps) (none : list_any is_open ps.list ≡ false) where
     abbrev f : Env
     f = with_parts e bs ls
 
-    record IsTyped (m : Made) : Type 0 where
+    record IsTyped (r : Option ℕ) (m : Made) : Type 0 where
       number : ℕ
-      is : m ≡ (record f { types = u ps }, Some number)
-      given : added_number e.types (proper ps) ≡ Some number
+      is : m ≡ (record f { types = u ps r }, Some number)
+      given : added_number e.types (typed ps r) ≡ Some number
 
-    typed_right : Right IsTyped (type_node f h.place (proper ps))
+    typed_right : (r : Option ℕ) → Right (IsTyped r) (type_node f h.place (typed ps r))
     unfolding type_node
-    typed_right clear = let n = is_there (added_number e.types (proper ps)) clear.0 in record { number = n.0; is = λ i. (record f { types = u ps }, n.1 i); given = n.1 }
+    typed_right r clear = let n = is_there (added_number e.types (typed ps r)) clear.0 in record { number = n.0; is = λ i. (record f { types = u ps r }, n.1 i); given = n.1 }
 
-    named_right : (m : Made) → IsTyped m → Right (IsHeaded e) (named_means (k e) h.name m)
+    named_right : (r : Option ℕ) → (Few e.types → ResultTold e.types r) → (m : Made) → IsTyped r m → Right (IsHeaded e) (named_means (k e) h.name m)
     unfolding after bind_at numbered_node
-    named_right m made = subst (λ (m : Made). Right (IsHeaded e) (named_means (k e) h.name m)) (sym made.is) (λ clear.
+    named_right r returns m made = subst (λ (m : Made). Right (IsHeaded e) (named_means (k e) h.name m)) (sym made.is) (λ clear.
         let room : length e.procedures < 250 = grind (arith, nat_tests, clear.1.0) in
-        let before = few_before e.types (u ps) (added_grown e.types (own e.types) (proper ps)) in
-        record { its = _; procedures = refl; procedure = refl; few = before; told = λ few. headed_told ps bs ls made.number made.given room few (told (before few)) none })
+        let before = few_before e.types (u ps r) (added_grown e.types (own e.types) (typed ps r)) in
+        record { its = _; procedures = refl; procedure = refl; few = before; told = λ few. headed_told ps r bs ls made.number made.given room few (told (before few)) none (returns (before few)) })
 
-    -- without a type where a parameter has a fault
-    broken_right : ps.right ≡ false → Right (IsHeaded e) (named_means (k e) h.name (f, None))
+    -- without a type where a parameter or the result has a fault
+    broken_right : (Few e.types → ⊥) → Right (IsHeaded e) (named_means (k e) h.name (f, None))
     unfolding after bind_at numbered_node
-    broken_right wrong clear = record { its = _; procedures = refl; procedure = refl; few = λ few. few; told = λ few. absurd (true≢false (sym (told few).right ∙ wrong)) }
+    broken_right wrong clear = record { its = _; procedures = refl; procedure = refl; few = λ few. few; told = λ few. absurd (wrong few) }
 
-    rest_right : Right (IsHeaded e) (after (after (result_means f None) (λ n. form_node f h.place (procedure_form ps n))) (named_means (k e) h.name))
+    -- what the result is
+    abbrev IsResult : NamedType → Type 0
+    IsResult Absent = Unit {0}
+    IsResult (Given r) = Few e.types → ResultTold e.types (Some r)
+    IsResult Faulty = Few e.types → ⊥
+
+    typed_so : (r : Option ℕ) → (Few e.types → ResultTold e.types r) → (c : Bool) → ps.right ≡ c → Right (IsHeaded e) (after (form_node f h.place (if c then Some (typed ps r) else None)) (named_means (k e) h.name))
     unfolding after
-    rest_right = by ps.right refl
-      where
-        by : (c : Bool) → ps.right ≡ c → Right (IsHeaded e) (after (form_node f h.place (if c then Some (proper ps) else None)) (named_means (k e) h.name))
-        by true is = after_right IsTyped (IsHeaded e) (type_node f h.place (proper ps)) (named_means (k e) h.name) typed_right named_right
-        by false is = broken_right is
+    typed_so r returns true is = after_right (IsTyped r) (IsHeaded e) (type_node f h.place (typed ps r)) (named_means (k e) h.name) (typed_right r) (named_right r returns)
+    typed_so r returns false is = broken_right (λ few. true≢false (sym (told few).right ∙ is))
 
-  parts_right : (q : Headed) → IsHeading e q → (r : Option Qualident) → Right (IsHeaded e) (not_built (has_more q.1.list r) h.place (after (after (result_means q.0 r) (λ n. form_node q.0 h.place (procedure_form q.1 n))) (named_means (k e) h.name)))
+    formed_right : (n : NamedType) → IsResult n → Right (IsHeaded e) (after (form_node f h.place (procedure_form ps n)) (named_means (k e) h.name))
+    unfolding after
+    formed_right Absent j = typed_so None (λ few. tt) ps.right refl
+    formed_right (Given r) j = typed_so (Some r) j ps.right refl
+    formed_right Faulty j = broken_right j
+
+    result_right : (at : Place) (o : Option ℕ) → (Few e.types → Lies e.types o) → Right IsResult (result_node e.types at o)
+    unfolding result_node
+    result_right at None lies clear = lies
+    result_right at (Some r) lies clear = subst (λ c. IsResult (if c then Faulty else Given r)) (sym clear.0) (λ few. result_told e.types (begun few).told.types r (lies few) clear.0)
+
+  parts_right : (q : Headed) → IsHeading e q → (r : Option Qualident) → Right (IsHeaded e) (not_built (any_open q.1.list) h.place (after (after (result_means q.0 r) (λ n. form_node q.0 h.place (procedure_form q.1 n))) (named_means (k e) h.name)))
   unfolding not_built
-  parts_right q j r = subst (λ (q : Headed). Right (IsHeaded e) (not_built (has_more q.1.list r) h.place (after (after (result_means q.0 r) (λ n. form_node q.0 h.place (procedure_form q.1 n))) (named_means (k e) h.name)))) (λ i. (sym j.is i, q.1)) (by r)
+  parts_right q j r clear = both_right (IsResult q.1 j.blocks j.locals j.told none) (IsHeaded e) (result_means q.0 r) (λ n. form_node q.0 h.place (procedure_form q.1 n)) (named_means (k e) h.name) (its r) rest clear.1
     where
-      by : (r : Option Qualident) → Right (IsHeaded e) (not_built (has_more q.1.list r) h.place (after (after (result_means (with_parts e j.blocks j.locals) r) (λ n. form_node (with_parts e j.blocks j.locals) h.place (procedure_form q.1 n))) (named_means (k e) h.name)))
-      by None clear = rest_right q.1 j.blocks j.locals j.told (or_parts (list_any is_open q.1.list) false clear.0).0 clear.1
-      by (Some x) clear = absurd (true≢false (or_parts (list_any is_open q.1.list) true clear.0).1)
+      none : list_any is_open q.1.list ≡ false
+      none = clear.0
+
+      rest : (n : NamedType) → IsResult q.1 j.blocks j.locals j.told none n → Right (IsHeaded e) (after (form_node q.0 h.place (procedure_form q.1 n)) (named_means (k e) h.name))
+      rest n i = subst (λ (g : Env). Right (IsHeaded e) (after (form_node g h.place (procedure_form q.1 n)) (named_means (k e) h.name))) (sym j.is) (formed_right q.1 j.blocks j.locals j.told none n i)
+
+      its : (r : Option Qualident) → Right (IsResult q.1 j.blocks j.locals j.told none) (result_means q.0 r)
+      its None = λ clear. tt
+      its (Some x) = after_right (λ o. Few e.types → Lies e.types o) (IsResult q.1 j.blocks j.locals j.told none) (type_named q.0 x) (result_node q.0.types x.name.place) (type_there e begun q j x)
+          (λ o lies. subst (λ (t : Table). Right (IsResult q.1 j.blocks j.locals j.told none) (result_node t x.name.place o)) (sym (ap (λ (g : Env). g.types) j.is)) (result_right q.1 j.blocks j.locals j.told none x.name.place o lies))
 
   pub heading_right : Right (IsHeaded e) (heading_means e h)
   heading_right = after_right (IsHeading e) (IsHeaded e) (walk (section_step (home_at e (k e))) (names.begun e, no_parameters) h.sections) _
@@ -233,7 +289,7 @@ module _ (e : Env) (g : Env) (headed : IsHeaded e g) where
     told = record { types = d.told.types; words = d.told.words; names = d.told.names; homed = d.told.homed; stands = stands_inside g.scopes.blocks g.procedures g.variables g.locals d.told.homed n headed.its its_there };
     residents = d.residents;
     variables = d.variables;
-    proper = d.proper;
+    headings = d.headings;
     headed = d.headed;
   }
 
@@ -257,7 +313,7 @@ module _ (e : Env) (g : Env) (headed : IsHeaded e g) where
           };
           residents = d.residents;
           variables = d.variables;
-          proper = d.proper;
+          headings = d.headings;
           headed = d.headed;
         };
   }

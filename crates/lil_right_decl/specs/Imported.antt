@@ -96,7 +96,7 @@ start_told = record {
   };
   residents = (all_then (λ x. StandardTold x × StandardIn x) StandardIn (λ x h. h.1) standard_names standard_told, (tt, tt));
   variables = (tt, tt);
-  proper = tt;
+  headings = tt;
   headed = λ n q is. absurd (none-some q is);
 }
 

@@ -14,6 +14,7 @@ use Rattle.lil_report.specs.Told.{Row, after, walk}
 use Rattle.lil_kinds.specs.Forms.{form_in, of_form, is_form, array_of, array_parts, is_record_form, is_record, shape}
 use Rattle.lil_shapes.specs.{Bases.{kind_at, is_composite, composite_by, composite_at}, ListLaws.AllFine, Pointers.lies_at, Shaping.passing_of, ShapeSound.{earlier}}
 use Rattle.lil_forms.specs.Scopes.{fine_more}
+use Rattle.lil_forms.specs.Variables.{passing_by}
 use Rattle.lil_scope.specs.{Names.{Names, look_in, inner_or, block_by, block_at, find_in, bound, bound_at, bind_at, with_local, locals_in, inside, entered, outside, level, chain}, declared.{env.Env.Env, thing.{Entry.Entry, Thing.Thing}}}
 use Rattle.lil_scope.specs.declared.thing.Thing.TheVariants as thing
 use Rattle.lil_scope.specs.Names as names
@@ -21,7 +22,7 @@ use Rattle.lil_check_value.specs.{declared.names.Looked.{Looked, TheVariants.{Th
 use Rattle.lil_check_value.specs.Looks.{type_node as type_of_name}
 use Rattle.lil_check_type.specs.{declared.routines.Parameters.Parameters, Records.{is_structure, sort_or, no_parameters, with_parameter}}
 use Rattle.lil_check_decl.specs.{declared.home.Home.Home, Headings.{variable_thing, with_variable, mode_of, section_home, Headed, parameter_step, section_step, home_at, is_open}}
-use Rattle.lil_right_type.specs.{Right.{Right, after_right}, Found.{ParameterTold, passing_by, AreHeaded, EnvTold}, Homes.{HasPassing, IsHome, OnPath, last_locals}, Types.{IsTold, meant_is}}
+use Rattle.lil_right_type.specs.{Right.{Right, after_right}, Found.{ParameterTold, AreHeaded, EnvTold}, Homes.{HasPassing, IsHome, OnPath, last_locals}, Types.{IsTold, meant_is}}
 use Rattle.lil_right_value.specs.Names.{Lies, LookTold, look_told, named_lies, bound_is}
 use Rattle.lil_right_sort.specs.{Growth.{all_then, Few, last_there, AllLie}, Simple.{Begun, walk_keeps}}
 
@@ -171,7 +172,7 @@ module _ (e : Env) where
             ∙ ap (λ (x : Option ℕ × List Row). (x.0, (module_node m.place (look e m.name)).1 ++ x.1)) (member_same m.place (module_of (look e m.name)) (its_module (look e m.name) (look_told e told m.name)))
 
   module _ (begun : Begun e) where
-    type_there : (q : Headed) → IsHeading q → (x : Qualident) → Right (λ o. Few e.types → Lies e.types o) (type_named q.0 x)
+    pub type_there : (q : Headed) → IsHeading q → (x : Qualident) → Right (λ o. Few e.types → Lies e.types o) (type_named q.0 x)
     type_there q h x clear few =
         let p = h.told few in
         let told = (begun few).told in

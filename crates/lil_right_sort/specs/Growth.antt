@@ -15,7 +15,7 @@ use Rattle.lil_scope.specs.declared.thing.Thing.TheVariants as thing
 use Rattle.lil_kinds.specs.{Forms.{form_in, shape, span_in, is_routine_form, of_form, parameters, parameters_of, parameters_in, result, result_of}}
 use Rattle.lil_shapes.specs.{BaseLaws.kind_base, Bases.{plain, base_by, base_form, base_at, kind_over, kind_at, is_composite, composite_at, composite_by}, ListLaws.AllFine, Pointers.lies_at, ShapeSound.{at_end, earlier}}
 use Rattle.lil_forms.specs.Scopes.{fine_more}
-use Rattle.lil_right_type.specs.{Homes.{Longer, AllLonger, IsPlain, HasPassing, Allowed, homed_bound, homed_begun, homed_more}, Types.{HasNumbers, HasSpan, FormTold, IsTold, IsOrdinal, meant_is, own_base, known_ordinal, entry_known}, Words.{FormMeasured, AreMeasured}, Parts.base_itself, Found.{KindTold, ParameterTold, HeadingTold, AreHeaded, ThingTold, EnvTold}}
+use Rattle.lil_right_type.specs.{Homes.{Longer, AllLonger, IsPlain, HasPassing, Allowed, homed_bound, homed_begun, homed_more}, Types.{HasNumbers, HasSpan, FormTold, IsTold, IsOrdinal, meant_is, own_base, known_ordinal, entry_known}, Words.{FormMeasured, AreMeasured}, Parts.base_itself, Found.{KindTold, ParameterTold, ResultTold, HeadingTold, AreHeaded, ThingTold, EnvTold}}
 use Rattle.lil_right_value.specs.Names.{Told, bound_at_is}
 pub use Rattle.lil_right_type.specs.{Right.all_then, Homes.last_there}
 
@@ -204,10 +204,14 @@ module _ {to : ℕ} (t u : Table) (told : IsTold t) (kept : Kept to t u) where
   pub parameter_stays : (p : Parameter) → ParameterTold t p → ParameterTold u p
   parameter_stays p h = record { closed = h.closed; lies = lies_stays p.sort h.lies }
 
+  pub result_stays : (r : Option ℕ) → ResultTold t r → ResultTold u r
+  result_stays None h = tt
+  result_stays (Some r) h = (h.0, kind_stays r h.0 h.1)
+
   pub heading_stays : (s : ℕ) → s < next t → HeadingTold t s → HeadingTold u s
   heading_stays s here h =
       let same = same_signature s here in
-      (subst (AllFine (ParameterTold u)) (sym same.0) (all_then (ParameterTold t) (ParameterTold u) parameter_stays (parameters t s) h.0), same.1 ∙ h.1)
+      (subst (AllFine (ParameterTold u)) (sym same.0) (all_then (ParameterTold t) (ParameterTold u) parameter_stays (parameters t s) h.0), subst (ResultTold u) (sym same.1) (result_stays (result t s) h.1))
 
   -- as more texts are declared too
   module _ (texts more : List (List ℕ)) (kept_texts : Longer texts more) where
@@ -367,9 +371,9 @@ AllLie Q t vs = AllFine (λ (v : RVar). (lies_at t v.sort ≡ true) × Q v.mode)
 abbrev pub Lie : Table → List RVar → List (List RVar) → Type 0
 Lie t vs ls = AllLie IsPlain t vs × AllFine (AllLie HasPassing t) ls
 
--- the type of a procedure that isn't a function
-abbrev pub IsProper : Table → RProc → Type 0
-IsProper t q = (q.sort < next t) × HeadingTold t q.sort
+-- the type of a procedure is told
+abbrev pub HasHeading : Table → RProc → Type 0
+HasHeading t q = (q.sort < next t) × HeadingTold t q.sort
 
 -- the first variables of a procedure are those for its parameters
 abbrev pub AllHeaded : Table → List RProc → List (List RVar) → Type 0
@@ -379,7 +383,7 @@ pub record Declared (e : Env) : Type 0 where
   pub told : EnvTold e
   pub residents : AreIn e
   pub variables : Lie e.types e.variables e.locals
-  pub proper : AllFine (IsProper e.types) e.procedures
+  pub headings : AllFine (HasHeading e.types) e.procedures
   pub headed : AllHeaded e.types e.procedures e.locals
 
 -- a thing that may be bound there, in a block
@@ -392,8 +396,8 @@ module _ (e : Env) (h : Declared e) where
     told = record { types = told; words = measured; names = all_with _ _ _ (λ b. all_with _ _ _ (λ (x : List ℕ × Entry). same_things x.1.thing) b) e.scopes.blocks h.residents h.told.names; homed = h.told.homed; stands = h.told.stands };
     residents = all_then _ _ (λ b. all_then _ _ (λ (x : List ℕ × Entry). in_stays e.types u h.told.types kept x.1.thing) b) e.scopes.blocks h.residents;
     variables = (they_lie IsPlain e.variables h.variables.0, all_then _ _ (they_lie HasPassing) e.locals h.variables.1);
-    proper = all_then (IsProper e.types) (IsProper u) (λ (q : RProc) j. (kept.below q.sort j.0, heading_stays e.types u h.told.types kept q.sort j.0 j.1)) e.procedures h.proper;
-    headed = λ n q is. subst (λ (ps : List Parameter). AreHeaded ps (locals_in e.locals n)) (sym (same_signature e.types u h.told.types kept q.sort (fine_at (IsProper e.types) e.procedures n q h.proper is).0).0) (h.headed n q is);
+    headings = all_then (HasHeading e.types) (HasHeading u) (λ (q : RProc) j. (kept.below q.sort j.0, heading_stays e.types u h.told.types kept q.sort j.0 j.1)) e.procedures h.headings;
+    headed = λ n q is. subst (λ (ps : List Parameter). AreHeaded ps (locals_in e.locals n)) (sym (same_signature e.types u h.told.types kept q.sort (fine_at (HasHeading e.types) e.procedures n q h.headings is).0).0) (h.headed n q is);
   }
     where
       same_things : (x : Thing) → IsIn e.types x → ThingTold e.types e.texts x → ThingTold u e.texts x
@@ -413,7 +417,7 @@ module _ (e : Env) (h : Declared e) where
     told = record { types = h.told.types; words = h.told.words; names = h.told.names; homed = h.told.homed; stands = h.told.stands };
     residents = h.residents;
     variables = h.variables;
-    proper = h.proper;
+    headings = h.headings;
     headed = h.headed;
   }
 
@@ -429,7 +433,7 @@ module _ (e : Env) (h : Declared e) where
     };
     residents = bound_at_is (IsIn e.types) e.scopes.blocks k n x h.residents j.1.0;
     variables = h.variables;
-    proper = h.proper;
+    headings = h.headings;
     headed = h.headed;
   }
 
@@ -444,7 +448,7 @@ module _ (e : Env) (h : Declared e) where
     };
     residents = fine_more _ e.scopes.blocks [] h.residents tt;
     variables = h.variables;
-    proper = h.proper;
+    headings = h.headings;
     headed = h.headed;
   }
 
@@ -460,7 +464,7 @@ module _ (e : Env) (h : Declared e) where
     };
     residents = h.residents;
     variables = all;
-    proper = h.proper;
+    headings = h.headings;
     headed = headed;
   }
 
@@ -476,7 +480,7 @@ module _ (e : Env) (h : Declared e) where
     };
     residents = h.residents;
     variables = h.variables;
-    proper = h.proper;
+    headings = h.headings;
     headed = h.headed;
   }
     where

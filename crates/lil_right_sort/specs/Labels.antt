@@ -8,7 +8,7 @@ use Rattle.lil_kinds.specs.declared.found.Found.{Found}
 use Rattle.lil_forms.specs.{Properties.nothing, Variables.seen}
 use Rattle.lil_check_value.specs.Values.{asked_means}
 use Rattle.lil_check_type.specs.{Bounds.bound_of, Labels.{label_rest, label_means}}
-use Rattle.lil_right_type.specs.{Right.{Right, IsThere, after_right}, Found.{EnvTold, IsKnown}}
+use Rattle.lil_right_type.specs.{Right.{Right, IsThere, after_right}, Found.{reach, EnvTold, IsKnown}}
 use Rattle.lil_right_value.specs.Values.{asked_right}
 use Rattle.lil_right_sort.specs.Ranges.{HasBase, Numbered, one_right, several_right}
 
@@ -17,7 +17,7 @@ module _ (e : Env) (told : EnvTold e) (n : ℕ) (of : HasBase e.types n) (us : L
   label_right r = behind r.low (λ o. label_rest e (Some n) us (bound_of o) r.high) (λ a h. rest a h r.high)
     where
       behind : (x : Expr) (k : Option Found → Option Span × List Row) → ((a : Found) → IsKnown e a → Right (IsThere (Numbered of.0)) (k (Some a))) → Right (IsThere (Numbered of.0)) (after (asked_means e x) k)
-      behind x k then = after_right (IsThere (IsKnown e)) (IsThere (Numbered of.0)) (asked_means e x) k (asked_right e (nothing e.types (seen e) e.withs) told x) by
+      behind x k then = after_right (IsThere (IsKnown e)) (IsThere (Numbered of.0)) (asked_means e x) k (asked_right e (nothing e.types (seen e) e.withs (reach e)) told x) by
         where
           by : (o : Option Found) → IsThere (IsKnown e) o → Right (IsThere (Numbered of.0)) (k o)
           by None h = absurd h

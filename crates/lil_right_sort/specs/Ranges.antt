@@ -10,7 +10,7 @@ use Rattle.lil_report.specs.Told.{Row}
 use Rattle.lil_scope.specs.declared.thing.Kind.{Kind}
 use Rattle.lil_scope.specs.declared.thing.Kind.TheVariants as k
 use Rattle.lil_declared.specs.declared.declared.RVar.{RVar}
-use Rattle.lil_forms.specs.Properties.{Property}
+use Rattle.lil_forms.specs.Properties.{Property, Reach}
 use Rattle.lil_kinds.specs.{Forms.{span_in, span_of, is_routine_form}, Kinds.{is_constant, word_number, number, suits, compatible}, declared.found.Found.Found}
 use Rattle.lil_kinds.specs.Kinds as kinds
 use Rattle.lil_resolved.specs.{Kinds.{is_ordinal, least, greatest}, Views.base_view, declared.resolved.{RBase.RBase, RNamed.RNamed}}
@@ -260,7 +260,7 @@ module _ (t : Table) (told : IsTold t) where
   abbrev asked : Found → Bound
   asked a = record { kind = a.kind; first = a.first }
 
-  pub range_right : {vs : RNamed → Option RVar} {around : List ℕ} (P : Property t vs around) (p : Place) (named : NamedType) (a c : Option Found) → NamedTold t named → IsThere (IsFound P) a → IsThere (IsFound P) c → Right (IsThere (MadeOf t)) (range_node t p named (bound_of a) (bound_of c))
+  pub range_right : {vs : RNamed → Option RVar} {around : List ℕ} {R : Reach} (P : Property t vs around R) (p : Place) (named : NamedType) (a c : Option Found) → NamedTold t named → IsThere (IsFound P) a → IsThere (IsFound P) c → Right (IsThere (MadeOf t)) (range_node t p named (bound_of a) (bound_of c))
   range_right P p Faulty a c h first last = absurd h
   range_right P p Absent None c h first last = absurd first
   range_right P p Absent (Some a) None h first last = absurd last

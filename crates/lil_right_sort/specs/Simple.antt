@@ -17,7 +17,7 @@ use Rattle.lil_check_value.specs.{Looks.type_named, Values.asked_means}
 use Rattle.lil_check_type.specs.{Made.{Made, type_node, form_node, ordinal_node}, Bounds.{bound_of, range_node}, Simple.{names_of, constant_thing, next_word, constant_step, names_node, enumeration_means, given, base_means, simple_means, simple_place, simple_first, index_means, is_short, base_node, set_means}}
 use Rattle.lil_check_type.specs.Made as made
 use Rattle.lil_forms.specs.{Properties.nothing, Variables.seen}
-use Rattle.lil_right_type.specs.{Right.{Clear, Right, IsThere, clear_left, clear_right, after_right, is_so}, Types.{HasSpan, IsTold, entry_base}, Found.{HasWord, IsKnown}}
+use Rattle.lil_right_type.specs.{Right.{Clear, Right, IsThere, clear_left, clear_right, after_right, is_so}, Types.{HasSpan, IsTold, entry_base}, Found.{reach, HasWord, IsKnown}}
 use Rattle.lil_right_value.specs.{Values.asked_right, Names.{Lies, named_lies}}
 use Rattle.lil_right_sort.specs.{Growth.{Few, Grown, grown_same, grown_more, few_before, Kept, grown_kept, added_grown, added_entry, added_lies, added_told, declared_added, bound_declared, Declared}, Ranges.{MadeOf, NamedTold, range_right}}
 
@@ -220,7 +220,7 @@ named_base_right e begun (Some q) =
     given_told (Some n) h = h
 
 expression_there : (e : Env) → Begun e → (x : Expr) → Right (λ a. Few e.types → IsThere (IsKnown e) a) (asked_means e x)
-expression_there e begun x clear few = asked_right e (nothing e.types (seen e) e.withs) (begun few).told x clear
+expression_there e begun x clear few = asked_right e (nothing e.types (seen e) e.withs (reach e)) (begun few).told x clear
 
 -- ---- all forms
 pub simple_right : (e : Env) → Begun e → (x : Simple) → Right (SortTold e) (simple_means e x)
@@ -232,7 +232,7 @@ simple_right e begun (simple.Subrange p q x y) =
     (λ n h. after_right (λ a. Few e.types → IsThere (IsKnown e) a) (SortTold e) (asked_means e x) _ (expression_there e begun x)
     (λ a first. after_right (λ c. Few e.types → IsThere (IsKnown e) c) (SortTold e) (asked_means e y) _ (expression_there e begun y)
     (λ c last. after_right (λ o. Few e.types → IsThere (MadeOf e.types) o) (SortTold e) (range_node e.types p n (bound_of a) (bound_of c)) (form_node e p)
-    (λ clear few. range_right e.types (begun few).told.types (nothing e.types (seen e) e.withs) p n a c (h few) (first few) (last few) clear) (form_right e begun p))))
+    (λ clear few. range_right e.types (begun few).told.types (nothing e.types (seen e) e.withs (reach e)) p n a c (h few) (first few) (last few) clear) (form_right e begun p))))
 
 pub index_right : (e : Env) → Begun e → (x : Simple) → Right (IndexTold e) (index_means e x)
 index_right e begun x =

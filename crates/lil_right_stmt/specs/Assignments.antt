@@ -15,6 +15,7 @@ use Rattle.lil_scope.specs.declared.thing.Kind.{Kind}
 use Rattle.lil_scope.specs.declared.thing.Kind.TheVariants as k
 use Rattle.lil_kinds.specs.{Forms.array_parts, Kinds.{suits, compatible, passes, assignable, misses, has_room, holds, holds_by}, declared.{forms.ArrayParts.ArrayParts, found.{Form.Form, Found.Found, Located.Located}}}
 use Rattle.lil_kinds.specs.declared.found.Form.TheVariants as form
+use Rattle.lil_forms.specs.Properties.{Reach}
 use Rattle.lil_forms.specs.{Places.{cell_as, cell}, Scopes.{Fits, both_left, both_right}, Soundness.{soundness, composite_there, characters_lie}, Statements.{stored, composed, assigned, located_in}, StatementSound.{StatementSound, made_sound}, Values.typed}
 use Rattle.lil_right_type.specs.{Found.{KindTold, LiesAt, GoesWith, IsLocated, IsFound}, Parts.{no_kind, array_is, has_nil_is, whole_is, or_of}, Right.{Right, IsThere, is_so}, Sound.{stored_sound, target_sound}, Typed.{Stores, either, assignable_stores}, Types.{IsTold, HasSpan, known_ordinal, span_is}}
 use Rattle.lil_right_call.specs.Wholes.{IsWhole, IsSpelled, whole_or_spelled}
@@ -49,7 +50,7 @@ module _ (t : Table) (told : IsTold t) where
             ap (nat_le n) many ∙ room,
           )
 
-module _ {t : Table} {vs : RNamed → Option RVar} {around : List ℕ} {ts : Scope} (fits : Fits t vs around ts) (told : IsTold t) (looping : Bool) where
+module _ {t : Table} {vs : RNamed → Option RVar} {around : List ℕ} {R : Reach} {ts : Scope} (fits : Fits t vs around R ts) (told : IsTold t) (looping : Bool) where
   abbrev Made : Option RStmt → Type 0
   Made o = IsThere (StatementSound ts looping) o
 

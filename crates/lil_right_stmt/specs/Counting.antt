@@ -16,7 +16,7 @@ use Rattle.lil_kinds.specs.Kinds as Kinds
 use Rattle.lil_forms.specs.{Scopes.{Fits, has_shape, both_left, both_right}, Soundness.{soundness, variable_lies}, StatementSound.{StatementSound, AllSound, body_sound, made_sound}, Values.typed, Variables.seen}
 use Rattle.lil_check_value.specs.declared.names.Looked.{Looked}
 use Rattle.lil_check_value.specs.declared.names.Looked.TheVariants as l
-use Rattle.lil_right_type.specs.{Found.{IsFound, EnvTold}, Right.{Right, IsThere, is_so}, Sound.{value_sound, whole_sound}, Typed.{Yields, Suits, kept_if, mapped, suits_yields, stores_suits, assignable_stores}, Types.ordinal_is}
+use Rattle.lil_right_type.specs.{Found.{reach, IsFound, EnvTold}, Right.{Right, IsThere, is_so}, Sound.{value_sound, whole_sound}, Typed.{Yields, Suits, kept_if, mapped, suits_yields, stores_suits, assignable_stores}, Types.ordinal_is}
 use Rattle.lil_check_stmt.specs.Counting.{variable_by, counted_variable, counting_named, bounds_of, is_step, counted_with, is_nothing, is_other, is_plain, is_unfit, counting_with, counter_of, counter_node, start_node, limit_node, step_of, is_other_constant, is_no_step, step_node, count_of, counted}
 use Rattle.lil_right_value.specs.Names.{SeenTold, LookTold}
 use Rattle.lil_right_sort.specs.Ranges.{node_right}
@@ -45,7 +45,7 @@ step_right a clear = by a.kind clear.0 clear.1.0 clear.1.1.0
     by _ constant other step = cc
 
 -- ---- the whole head
-module _ (e : Env) {ts : Scope} (fits : Fits e.types (seen e) e.withs ts) (told : EnvTold e) where
+module _ (e : Env) {ts : Scope} (fits : Fits e.types (seen e) e.withs (reach e) ts) (told : EnvTold e) where
   -- a variable whose values have numbers
   pub record IsCounter (c : Taken count_of) : Type 0 where
     pub variable : RVariable

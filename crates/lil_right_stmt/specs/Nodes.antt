@@ -1,23 +1,25 @@
 -- The nodes of statements in which no test finds a fault: conditions, the record of a WITH, EXIT, RETURN, and what a CASE selects by with its labels.
 use Rattle.std.proofs.Common.{◌≡◌, ℕ, Bool, true, false, not, List, [], ◌∷◌, map, Option, Some, None, if◌then◌else◌, refl, sym, ap, subst, ◌∙◌, arith, true≢false}
+use Rattle.std.specs.Option.{option_map}
 use Rattle.std.specs.Prelude.{ℤ, pos, ◌&&◌, ◌||◌, int_lt, is_some}
 use Rattle.std.proofs.lemmas.Int.{ints}
 use Rattle.lil_base.specs.declared.fault.Place.{Place}
 use Rattle.lil_types.specs.{Types.{Table, integer, cardinal, boolean, char, base}, Folding.fits, declared.table.Span.Span}
 use Rattle.lil_declared.specs.declared.declared.RVar.{RVar}
-use Rattle.lil_resolved.specs.{Kinds.{Kind, Scope, OfTruth, is_ordinal}, Sound.{IsSoundWhole, IsSoundHeld, IsSoundLabel, AreSoundLabels, AreSoundArms}, Resolved.Arms, Views.{case_is, exit_is, return_is, arm_is, base_view, label_of, armed, else_of, expression_of, place_of}, declared.resolved.{RArm.{RArm, out-RArm}, RBase.RBase, RExpr.RExpr, RLabel.RLabel, RNamed.RNamed, RStmt.RStmt}}
+use Rattle.lil_resolved.specs.{Kinds.{Kind, Scope, OfTruth, is_ordinal, result_here}, Sound.{IsSoundWhole, IsSoundHeld, IsSoundLabel, AreSoundLabels, AreSoundArms}, Resolved.Arms, Views.{case_is, exit_is, return_is, answer_is, kind_view, arm_is, base_view, label_of, armed, else_of, expression_of, place_of}, declared.resolved.{RArm.{RArm, out-RArm}, RBase.RBase, RExpr.RExpr, RLabel.RLabel, RNamed.RNamed, RStmt.RStmt}}
 use Rattle.lil_resolved.specs.Views as views
 use Rattle.lil_resolved.specs.declared.resolved.RBase.TheVariants as b
-use Rattle.lil_shapes.specs.{BaseLaws.{same_sort, number_sound}, Bases.{base_at, composite_at}, ListLaws.AllFine}
+use Rattle.lil_shapes.specs.{BaseLaws.{same_sort, number_sound}, Bases.{base_at, kind_at, composite_at}, ListLaws.AllFine}
 use Rattle.lil_scope.specs.declared.thing.Kind as scope
 use Rattle.lil_scope.specs.declared.thing.Kind.TheVariants as k
-use Rattle.lil_kinds.specs.{Forms.{span_of, is_record}, Kinds.{suits, compatible}, declared.found.{Form.Form, Found.Found, Located.Located}}
+use Rattle.lil_kinds.specs.{Forms.{span_of, is_record}, Kinds.{suits, compatible, assignable, misses}, declared.found.{Form.Form, Found.Found, Located.Located}}
 use Rattle.lil_kinds.specs.Kinds as Kinds
 use Rattle.lil_kinds.specs.declared.found.Form.TheVariants as form
-use Rattle.lil_forms.specs.{Scopes.Fits, Soundness.{Lies, soundness, composite_there}, StatementSound.{StatementSound, AllSound, body_sound, made_sound}, Values.{typed_by, typed}}
-use Rattle.lil_right_type.specs.{Found.{GoesWith, IsLocated, IsFound}, Parts.{base_itself, record_is}, Right.{Right, IsThere, is_so}, Sound.whole_sound, Typed.{Yields, mapped, kind_yields, suits_yields}, Types.{IsTold, ordinal_is}}
+use Rattle.lil_forms.specs.Properties.{Reach}
+use Rattle.lil_forms.specs.{Scopes.Fits, Soundness.{Lies, soundness, composite_there}, StatementSound.{StatementSound, AllSound, body_sound, made_sound}, Values.{typed_by, typed, returned}}
+use Rattle.lil_right_type.specs.{Found.{GoesWith, IsLocated, IsFound, ResultTold}, Parts.{base_itself, record_is}, Right.{Right, IsThere, is_so}, Sound.{whole_sound, stored_sound}, Typed.{Yields, Stores, mapped, kind_yields, suits_yields, assignable_stores}, Types.{IsTold, ordinal_is}}
 use Rattle.lil_check_type.specs.Bounds.{whole_type, type_below}
-use Rattle.lil_check_stmt.specs.{Labels.as_label, Nodes.{is_truth, condition_node, selector_node, is_record_kind, opening, record_node, exit_node, end_node, return_node}, Statements.{selected_by, selector_type, selector_value, within}}
+use Rattle.lil_check_stmt.specs.{Labels.as_label, Nodes.{is_truth, condition_node, selector_node, is_record_kind, opening, record_node, exit_node, end_node, answer, return_node}, Statements.{selected_by, selector_type, selector_value, within}}
 use Rattle.lil_right_sort.specs.Ranges.{Numbered, node_right}
 use Rattle.lil_right_stmt.specs.Assignments.{equal}
 
@@ -26,14 +28,14 @@ pub exit_right : (ts : Scope) (p : Place) (looping : Bool) → Right (IsThere (S
 unfolding exit_node
 exit_right ts p looping clear = made_sound ts looping _ _ exit_is (is_so looping clear.0)
 
-pub end_right : (ts : Scope) (looping : Bool) (p : Place) (result : Option ℕ) → Right (IsThere (StatementSound ts looping)) (end_node p result)
-unfolding end_node
-end_right ts looping p result clear = made_sound ts looping _ _ return_is tt
+-- what the procedure at hand returns, by the type of its result
+abbrev pub Returns : Table → Scope → Option ℕ → Type 0
+Returns t ts r = (result_here ts ≡ returned t r) × ResultTold t r
 
--- a value is returned by functions alone
-pub return_right : (t : Table) (P : Option RStmt → Type 0) (p : Place) (v : Found) → Right P (return_node t p None (Some v))
-unfolding return_node
-return_right t P p v clear = absurd (true≢false clear.0)
+pub end_right : (t : Table) (ts : Scope) (looping : Bool) (p : Place) (result : Option ℕ) → Returns t ts result → Right (IsThere (StatementSound ts looping)) (end_node p result)
+unfolding end_node
+end_right t ts looping p None h clear = made_sound ts looping _ _ return_is h.0
+end_right t ts looping p (Some r) h clear = absurd (true≢false clear.0)
 
 -- ---- records to which the check gives no name outside of it: what a function takes, or a value is
 abbrev pub Taken : {A B : Type 0} → (Option A → B) → Type 0
@@ -132,7 +134,19 @@ module _ (t : Table) (told : IsTold t) where
   selects (k.Of s) h = selects_span s (k.Of s) (base t s) h (equal (base t s) (base t s) refl) (λ f. refl) refl (itself s)
   selects _ h = cc
 
-module _ {t : Table} {vs : RNamed → Option RVar} {around : List ℕ} {ts : Scope} (fits : Fits t vs around ts) (told : IsTold t) where
+module _ {t : Table} {vs : RNamed → Option RVar} {around : List ℕ} {R : Reach} {ts : Scope} (fits : Fits t vs around R ts) (told : IsTold t) where
+  -- ---- RETURN of a value: that of a function
+  pub return_right : (looping : Bool) (p : Place) (result : Option ℕ) (v : Found) → Returns t ts result → IsFound (soundness fits) v → Right (IsThere (StatementSound ts looping)) (return_node t p result (Some v))
+  unfolding return_node
+  return_right looping p None v r h clear = absurd (true≢false clear.0)
+  return_right looping p (Some s) v r h clear =
+      by (typed t s v) (assignable_stores (soundness fits) told s r.1.0 v r.1.1 h (is_so (assignable t s v.kind) clear.0) clear.1.0)
+    where
+      by : (o : Option RExpr) → IsThere (Stores (soundness fits) r.1.0 v.depth) o → IsThere (StatementSound ts looping) (answer (kind_at t s) o)
+      by None y = absurd y
+      by (Some x) y = subst (λ k. IsThere (StatementSound ts looping) (answer k (Some x))) (sym r.1.1)
+          (made_sound ts looping _ _ (answer_is r.1.0 x) (r.0 ∙ ap (option_map kind_view) r.1.1, stored_sound fits v.depth h.few r.1.0 x y))
+
   -- ---- conditions
   abbrev pub IsCondition : RExpr → Type 0
   IsCondition x = IsSoundWhole ts (expression_of x) OfTruth

@@ -8,21 +8,20 @@ use Rattle.lil_report.specs.Told.{Row, after, pure, walk}
 use Rattle.lil_resolved.specs.{Kinds.{Scope, Shape, OfTruth, with_held}, Resolved.{Statements, shape_of}, Sound.{IsSoundWhole, IsSoundBody}, Views.{if_is, while_is, repeat_is, loop_is, inside_is, guard_is, guarded, expression_of, place_of, statements_of}, declared.resolved.{RArm.RArm, RBase.RBase, RGuard.RGuard, RLabel.RLabel, RStmt.RStmt}}
 use Rattle.lil_resolved.specs.Views as views
 use Rattle.lil_shapes.specs.ListLaws.{AllFine}
-use Rattle.lil_scope.specs.{Names.chain, declared.{env.Env.Env, thing.Kind.Kind}}
+use Rattle.lil_scope.specs.{declared.{env.Env.Env, thing.Kind.Kind}}
 use Rattle.lil_kinds.specs.declared.found.{Found.Found, Located.Located}
 use Rattle.lil_forms.specs.{Scopes.{Fits, fine_more, deeper}, Soundness.soundness, StatementSound.{StatementSound, AllSound, body_sound, made_sound}, Variables.seen}
 use Rattle.lil_check_value.specs.{Looks.look, Values.means}
-use Rattle.lil_right_type.specs.{Found.{IsFound, IsLocated, EnvTold}, Homes.IsSeen, Right.{Right, IsThere, after_right, walk_right, IsAny}}
+use Rattle.lil_right_type.specs.{Found.{reach, IsFound, IsLocated, EnvTold}, Right.{Right, IsThere, after_right, walk_right, IsAny}}
 use Rattle.lil_check_type.specs.Labels.{label_means}
 use Rattle.lil_check_stmt.specs.{Nodes.{condition_node, return_node}, Labels.{tag_of, as_label, label_step, labels_mean, with_label}, Counting.{step_node, step_means, count_means}}
 use Rattle.lil_check_stmt.specs.Statements.{conditional, Meaning, GuardMeaning, ArmMeaning, list_means, else_means, guards_mean, no_arms, arms_step, arms_mean, condition_means, selector_means, kind_of, within, result_by, result_at, return_means, selected, with_record, statement_layer, guard_layer, arm_layer, statement_means, guard_means, arm_means, statements_mean}
 use Rattle.lil_check_stmt.specs.Induction.{meant, arm_meant, guard_meant, statement_rolled, arm_rolled, guard_rolled, bare, bare_arm, bare_guard, by_forms}
 use Rattle.lil_check_stmt.specs.Statements as statements
-use Rattle.lil_right_call.specs.Told.{Calls}
 use Rattle.lil_right_value.specs.{Names.look_told, Values.{means_right, variable_means_right, call_means_right}}
 use Rattle.lil_right_sort.specs.{Ranges.Numbered, Labels.label_right}
 use Rattle.lil_right_stmt.specs.{Assignments.assign_right, Counting.{IsCounter, IsCount, Starts, Ends, Steps, step_right, counted_right, counter_right, start_right, limit_right, count_right}}
-use Rattle.lil_right_stmt.specs.Nodes.{Taken, First, TypeOf, Opens, IsOpened, IsCondition, OtherSound, Selects, IsLabel, IsArm, labels_sound, exit_right, end_right, return_right, condition_right, record_right, selector_right, selected_right, as_sound}
+use Rattle.lil_right_stmt.specs.Nodes.{Taken, First, TypeOf, Opens, IsOpened, IsCondition, OtherSound, Selects, IsLabel, IsArm, labels_sound, Returns, exit_right, end_right, return_right, condition_right, record_right, selector_right, selected_right, as_sound}
 
 -- ---- phrases behind a value that is there, and lists of what is there
 module _ {A B : Type 0} (P : A → Type 0) (Q : B → Type 0) where
@@ -66,16 +65,12 @@ AreLabels g ls = IsThere (AllFine (IsLabel g)) ls.own
 abbrev AreArms : Scope → Bool → RBase → TypeOf no_arms → Type 0
 AreArms ts looping g out = IsThere (AllFine (IsArm ts looping g)) out.arms
 
--- ---- the body of a module, or of a procedure that is no function, with the calls that names reach there
-pub record InBody (e : Env) (ts : Scope) : Type 0 where
-  pub returns : result_at e ≡ None
-  pub calls : Calls e.types (IsSeen e.procedures (chain e)) ts
+-- ---- the body of a module, or of a procedure, by what it returns
+abbrev pub InBody : Env → Scope → Type 0
+InBody e ts = Returns e.types ts (result_at e)
 
 in_with : (e : Env) (ts : Scope) (r : Taken within) (x : Shape) → InBody e ts → InBody (within (Some r) e) (with_held ts x)
-in_with e ts r x h = record {
-  returns = same e.procedure ∙ h.returns;
-  calls = λ s n levels seen. let c = h.calls s n levels seen in record { low = c.low; few = c.few; may = record { its = c.may.its; known = c.may.known; declared = c.may.declared }; takes = c.takes };
-}
+in_with e ts r x h = subst (λ o. Returns e.types (with_held ts x) o) (sym (same e.procedure)) (h.0, h.1)
   where
     same : (o : Option ℕ) → result_by (within (Some r) e) o ≡ result_by e o
     same None = refl
@@ -83,10 +78,10 @@ in_with e ts r x h = record {
 
 -- ---- what is right in all surroundings: a statement, or a guard, and an arm behind right ones
 abbrev IsRight : {A : Type 0} → (Scope → Bool → A → Type 0) → (Env → Bool → Option A × List Row) → Type 0
-IsRight S m = (e : Env) (ts : Scope) → Fits e.types (seen e) e.withs ts → EnvTold e → e.waits ≡ [] → InBody e ts → (looping : Bool) → Right (IsThere (S ts looping)) (m e looping)
+IsRight S m = (e : Env) (ts : Scope) → Fits e.types (seen e) e.withs (reach e) ts → EnvTold e → e.waits ≡ [] → InBody e ts → (looping : Bool) → Right (IsThere (S ts looping)) (m e looping)
 
 abbrev IsRightArm : ArmMeaning → Type 0
-IsRightArm m = (e : Env) (ts : Scope) → Fits e.types (seen e) e.withs ts → EnvTold e → e.waits ≡ [] → InBody e ts → (looping : Bool) (kind : Kind) (s : Selects e.types kind) (out : TypeOf no_arms) → AreArms ts looping s.over out → Right (AreArms ts looping s.over) (m e looping (Some kind) out)
+IsRightArm m = (e : Env) (ts : Scope) → Fits e.types (seen e) e.withs (reach e) ts → EnvTold e → e.waits ≡ [] → InBody e ts → (looping : Bool) (kind : Kind) (s : Selects e.types kind) (out : TypeOf no_arms) → AreArms ts looping s.over out → Right (AreArms ts looping s.over) (m e looping (Some kind) out)
 
 -- ---- trees, each with its proof
 abbrev Tree : Type 0
@@ -115,7 +110,7 @@ arms_of xs = meanings arm_means IsRightArm xs
 abbrev guards_of : List GuardTree → List GuardMeaning
 guards_of xs = meanings guard_means (IsRight GuardSound) xs
 
-module _ (e : Env) (ts : Scope) (fits : Fits e.types (seen e) e.withs ts) (told : EnvTold e) (settled : e.waits ≡ []) where
+module _ (e : Env) (ts : Scope) (fits : Fits e.types (seen e) e.withs (reach e) ts) (told : EnvTold e) (settled : e.waits ≡ []) where
   -- a value, and what stands behind it
   behind_found : {B : Type 0} (Q : B → Type 0) (x : Expr) (k : Option Found → B × List Row) → ((a : Found) → IsFound (soundness fits) a → Right Q (k (Some a))) → Right Q (after (means e x) k)
   behind_found Q x k = behind_right (IsFound (soundness fits)) Q (means e x) k (means_right e (soundness fits) told settled x)
@@ -151,7 +146,7 @@ module _ (e : Env) (ts : Scope) (fits : Fits e.types (seen e) e.withs ts) (told 
         _ rs tt (all_of IsAny rs (λ r. tt))
 
 -- ---- each form
-module _ (e : Env) (ts : Scope) (fits : Fits e.types (seen e) e.withs ts) (told : EnvTold e) (settled : e.waits ≡ []) (none : InBody e ts) (looping : Bool) where
+module _ (e : Env) (ts : Scope) (fits : Fits e.types (seen e) e.withs (reach e) ts) (told : EnvTold e) (settled : e.waits ≡ []) (none : InBody e ts) (looping : Bool) where
   abbrev There : Option RStmt → Type 0
   There = IsThere (StatementSound ts looping)
 
@@ -183,11 +178,11 @@ module _ (e : Env) (ts : Scope) (fits : Fits e.types (seen e) e.withs ts) (told 
       by a h s (Some xs) arms ss some = selected_right fits told.types looping a h s xs ss arms some
 
   return_there : (p : Place) (o : Option Expr) → Right There (return_means e p o)
-  return_there p None = end_right ts looping p (result_at e)
-  return_there p (Some x) = behind_found e ts fits told settled There x _ (λ v h. subst (λ o. Right There (return_node e.types p o (Some v))) (sym none.returns) (return_right e.types There p v))
+  return_there p None = end_right e.types ts looping p (result_at e) none
+  return_there p (Some x) = behind_found e ts fits told settled There x _ (λ v h. return_right fits told.types looping p (result_at e) v none h)
 
 -- statements inside of a WITH
-with_there : (e : Env) (ts : Scope) (fits : Fits e.types (seen e) e.withs ts) (told : EnvTold e) → e.waits ≡ [] → InBody e ts → (looping : Bool) (r : Taken within) (xs : List Tree) → IsOpened fits told.types r
+with_there : (e : Env) (ts : Scope) (fits : Fits e.types (seen e) e.withs (reach e) ts) (told : EnvTold e) → e.waits ≡ [] → InBody e ts → (looping : Bool) (r : Taken within) (xs : List Tree) → IsOpened fits told.types r
     → Right (IsThere (StatementSound ts looping)) (after (list_means (within (Some r) e) looping (means_of xs)) (λ ss. pure (with_record (Some r) ss)))
 with_there e ts fits told settled none looping r xs h = by r.place h
   where
@@ -195,14 +190,14 @@ with_there e ts fits told settled none looping r xs h = by r.place h
     by None h = absurd h
     by (Some p) h =
         let held = with_held ts (shape_of ts (place_of p.place)) in
-        behind_body (within (Some r) e) held (subst (λ s. Fits e.types (seen e) (e.withs ++ s ∷ []) held) h.1 (deeper fits p h.0 h.2.there)) (record { types = told.types; words = told.words; names = told.names; homed = told.homed; stands = told.stands }) settled (in_with e ts r (shape_of ts (place_of p.place)) none) looping
+        behind_body (within (Some r) e) held (subst (λ s. Fits e.types (seen e) (e.withs ++ s ∷ []) (reach e) held) h.1 (deeper fits p h.0 h.2.there)) (record { types = told.types; words = told.words; names = told.names; homed = told.homed; stands = told.stands }) settled (in_with e ts r (shape_of ts (place_of p.place)) none) looping
         (IsThere (StatementSound ts looping)) xs _ (λ ss all clear. made_sound ts looping _ _ (inside_is p.place ss) (h.2, body_sound held looping ss all))
 
 layer_right : (y : Stmt-F Tree ArmTree GuardTree) → IsRight StatementSound (statement_layer (meant (bare y)))
 layer_right (s.Assign d p x) e ts fits told settled none looping =
     behind_right (λ a. IsFound (soundness fits) a × IsLocated a.form) (IsThere (StatementSound ts looping)) _ _ (variable_means_right e (soundness fits) told settled d) (λ a h.
     behind_found e ts fits told settled (IsThere (StatementSound ts looping)) x _ (λ v j. assign_right fits told.types looping p a v h.0 h.1 j))
-layer_right (s.Call d xs) e ts fits told settled none looping = call_means_right e fits told settled none.calls looping d xs
+layer_right (s.Call d xs) e ts fits told settled none looping = call_means_right e fits told settled looping d xs
 layer_right (s.If p gs None) e ts fits told settled none looping = if_there e ts fits told settled none looping gs None (λ clear. tt)
 layer_right (s.If p gs (Some xs)) e ts fits told settled none looping = if_there e ts fits told settled none looping gs (Some (means_of xs)) (else_there e ts fits told settled none looping xs)
 layer_right (s.Case p x as' None) e ts fits told settled none looping = case_there e ts fits told settled none looping x as' None (λ clear. tt)
@@ -241,7 +236,7 @@ statement_right = by_forms
     (λ y. subst IsRightArm (sym (arm_rolled (bare_arm y))) (arm_layer_right y))
     (λ y. subst (IsRight GuardSound) (sym (guard_rolled (bare_guard y))) (guard_layer_right y))
 
-pub statements_right : (e : Env) (ts : Scope) → Fits e.types (seen e) e.withs ts → EnvTold e → e.waits ≡ [] → InBody e ts → (looping : Bool) (xs : List Stmt) → Right (IsThere (AllSound ts looping)) (statements_mean e looping xs)
+pub statements_right : (e : Env) (ts : Scope) → Fits e.types (seen e) e.withs (reach e) ts → EnvTold e → e.waits ≡ [] → InBody e ts → (looping : Bool) (xs : List Stmt) → Right (IsThere (AllSound ts looping)) (statements_mean e looping xs)
 unfolding statements_mean
 statements_right e ts fits told settled none looping xs =
     list_right (StatementSound ts looping) (λ x. IsRight StatementSound (statement_means x)) (λ x. statement_means x e looping) (λ x h. h e ts fits told settled none looping) xs (all_of (λ x. IsRight StatementSound (statement_means x)) xs statement_right)

@@ -2,9 +2,9 @@
 use Rattle.std.specs.Prelude.{◌≡◌, ℕ, ◌+◌, ◌≤◌, pos, negsuc, Bool, true, false, List, [], ◌∷◌, length, slice_get, Option, Some, None}
 use Rattle.lil_base.specs.Words.{between}
 use Rattle.lil_types.specs.{Types.{Table, base, char, cardinal, integer, address, proc, process}, declared.table.Parameter.Parameter}
-use Rattle.lil_declared.specs.declared.{declared.{Mode.{Mode, TheVariants.{Value, Place}}, RVar.RVar}, standard.Resident.Resident}
+use Rattle.lil_declared.specs.declared.{declared.RVar.RVar, standard.Resident.Resident}
 use Rattle.lil_declared.specs.declared.standard.Resident.TheVariants as r
-use Rattle.lil_scope.specs.{Built.built, declared.{env.Env.Env, thing.{Chars.Chars, Entry.Entry, Kind.Kind, Thing.Thing}}}
+use Rattle.lil_scope.specs.{Built.built, Names.chain, declared.{env.Env.Env, thing.{Chars.Chars, Entry.Entry, Kind.Kind, Thing.Thing}}}
 use Rattle.lil_scope.specs.declared.thing.Kind.TheVariants as k
 use Rattle.lil_scope.specs.declared.thing.Thing.TheVariants as t
 use Rattle.lil_kinds.specs.{Forms.{parameters, result}, declared.found.{Form.Form, Found.Found, Located.Located, Standing.Standing}}
@@ -13,8 +13,8 @@ use Rattle.lil_kinds.specs.declared.found.Standing.TheVariants as standing
 use Rattle.lil_resolved.specs.{Sizes.{place_depth, depth}, Sound.is_text, Views.{base_view, expression_of, place_of}, declared.resolved.{RBase.RBase, RExpr.RExpr, RKind.RKind, RNamed.RNamed}}
 use Rattle.lil_resolved.specs.declared.resolved.RBase.TheVariants as b
 use Rattle.lil_shapes.specs.{Bases.{base_at, kind_at}, ListLaws.AllFine, Operators.has_number, Pointers.lies_at}
-use Rattle.lil_forms.specs.{Properties.{Property, nothing, value_kind}, Variables.seen}
-use Rattle.lil_right_type.specs.{Homes.{IsPlain, HasPassing, Homed, Stands}, Types.IsTold, Words.AreMeasured}
+use Rattle.lil_forms.specs.{Properties.{Property, Reach, nothing, value_kind}, Variables.{passing_by, seen}}
+use Rattle.lil_right_type.specs.{Homes.{IsPlain, IsSeen, HasPassing, Homed, Stands}, Types.IsTold, Words.AreMeasured}
 
 -- ---- kinds
 -- a base whose constants are told by their words
@@ -53,7 +53,7 @@ IsBare (k.Scalar s w) = Unit {0}
 IsBare k.Nil = Unit {0}
 IsBare _ = ⊥
 
-module _ {t : Table} {vs : RNamed → Option RVar} {around : List ℕ} (P : Property t vs around) where
+module _ {t : Table} {vs : RNamed → Option RVar} {around : List ℕ} {R : Reach} (P : Property t vs around R) where
   -- a value of a type with the property, whose code takes at most a word more than so many
   pub record IsValue (s d : ℕ) (x : RExpr) : Type 0 where
     pub as_kind : RKind
@@ -106,16 +106,20 @@ HasPlace standing.Value kind f = Unit {0}
 HasPlace standing.Variable kind f = IsPlaced kind f
 HasPlace standing.Character kind f = IsPlaced kind f
 
-pub record IsFound {t : Table} {vs : RNamed → Option RVar} {around : List ℕ} (P : Property t vs around) (a : Found) : Type 0 where
+pub record IsFound {t : Table} {vs : RNamed → Option RVar} {around : List ℕ} {R : Reach} (P : Property t vs around R) (a : Found) : Type 0 where
   pub kind : KindTold t a.kind
   pub form : GoesWith P a.depth a.kind a.form
   pub place : HasPlace a.standing a.kind a.form
   pub some : 1 ≤ a.depth
   pub few : a.depth ≤ 12
 
+-- calls of procedures that are seen here
+abbrev pub reach : Env → Reach
+reach e s n levels = IsSeen e.procedures (chain e) s n levels
+
 -- a value that is told, whatever lies in the variables
 abbrev pub IsKnown : Env → Found → Type 0
-IsKnown e a = IsFound (nothing e.types (seen e) e.withs) a
+IsKnown e a = IsFound (nothing e.types (seen e) e.withs (reach e)) a
 
 -- ---- parameters
 -- one of which code is made: no open array
@@ -123,14 +127,14 @@ pub record ParameterTold (t : Table) (p : Parameter) : Type 0 where
   pub closed : p.open_array ≡ false
   pub lies : lies_at t p.sort ≡ true
 
--- the type of a proper procedure with such parameters
-abbrev pub HeadingTold : Table → ℕ → Type 0
-HeadingTold t s = AllFine (ParameterTold t) (parameters t s) × (result t s ≡ None)
+-- values of the type of a result have a kind
+abbrev pub ResultTold : Table → Option ℕ → Type 0
+ResultTold t None = Unit {0}
+ResultTold t (Some r) = (k : RKind) × (kind_at t r ≡ Some k)
 
--- how the variable for a parameter is declared
-abbrev pub passing_by : Bool → Mode
-passing_by false = Value
-passing_by true = Place
+-- the type of a procedure with such parameters, and such a result if it is a function
+abbrev pub HeadingTold : Table → ℕ → Type 0
+HeadingTold t s = AllFine (ParameterTold t) (parameters t s) × ResultTold t (result t s)
 
 -- the variables of a procedure: those for its parameters, and behind them its own
 abbrev pub AreHeaded : List Parameter → List RVar → Type 0

@@ -5,10 +5,11 @@ use Rattle.lil_declared.specs.declared.declared.RVar.{RVar}
 use Rattle.lil_kinds.specs.declared.found.Located.{Located}
 use Rattle.lil_resolved.specs.{Kinds.Scope, Sound.{IsSoundTarget, IsSoundWhole, IsSoundValue, IsSoundStored}, Views.{base_view, kind_view, expression_of, place_of}, declared.resolved.{RBase.RBase, RExpr.RExpr, RKind.RKind, RNamed.RNamed}}
 use Rattle.lil_shapes.specs.Bases.{kind_at}
+use Rattle.lil_forms.specs.Properties.{Reach}
 use Rattle.lil_forms.specs.{Scopes.Fits, Soundness.{soundness, target}}
 use Rattle.lil_right_type.specs.{Found.LiesAt, Typed.{Yields, Suits, Stores}}
 
-module _ {t : Table} {vs : RNamed → Option RVar} {around : List ℕ} {ts : Scope} (fits : Fits t vs around ts) (d : ℕ) (few : d ≤ 12) where
+module _ {t : Table} {vs : RNamed → Option RVar} {around : List ℕ} {R : Reach} {ts : Scope} (fits : Fits t vs around R ts) (d : ℕ) (few : d ≤ 12) where
   pub whole_sound : (g : RBase) (x : RExpr) → Yields (soundness fits) g d x → IsSoundWhole ts (expression_of x) (base_view g)
   whole_sound g x h = record { kind = h.0; shallow = omega (arith, few, h.1); sound = h.2 }
 

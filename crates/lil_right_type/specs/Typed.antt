@@ -18,10 +18,10 @@ use Rattle.lil_resolved.specs.Kinds as kinds
 use Rattle.lil_resolved.specs.declared.resolved.RBase.TheVariants as b
 use Rattle.lil_resolved.specs.declared.resolved.RExpr.TheVariants as e
 use Rattle.lil_shapes.specs.{BaseLaws.{same_sort, base_words, kind_base}, Bases.{base_at, kind_at, kind_form, kind_over}, Operators.has_number}
-use Rattle.lil_forms.specs.{Scopes.{both_left, both_right}, Properties.{Property, value_kind}, Values.{constant, taken_as, own, typed_by, typed}}
+use Rattle.lil_forms.specs.{Scopes.{both_left, both_right}, Properties.{Property, Reach, value_kind}, Values.{constant, taken_as, own, typed_by, typed}}
 use Rattle.lil_right_type.specs.{Found.{is_scalar, HasWord, KindTold, GoesWith, IsFound}, Parts.{has_kind, no_kind, array_is, whole_is}, Right.IsThere, Types.{IsTold, FormTold, IsOrdinal, HasSpan, known_ordinal, span_is, entry_known}}
 
-module _ {t : Table} {vs : RNamed → Option RVar} {around : List ℕ} (P : Property t vs around) where
+module _ {t : Table} {vs : RNamed → Option RVar} {around : List ℕ} {R : Reach} (P : Property t vs around R) where
   -- an expression of a base with the property, whose code takes at most a word more than so many
   abbrev pub Yields : RBase → ℕ → RExpr → Type 0
   Yields b d x = (value_kind x ≡ base_view b) × (depth (expression_of x) ≤ d + 1) × P.value x
@@ -50,7 +50,7 @@ zero_number : (k : RBase) → has_number k (pos 0) ≡ true
 zero_number (b.Enumeration n) = in_range (pos 0) (pos 0) (kinds.greatest (base_view (b.Enumeration n))) (omega (arith, ints)) (omega (arith, ints))
 zero_number _ = refl
 
-module _ {t : Table} {vs : RNamed → Option RVar} {around : List ℕ} (P : Property t vs around) where
+module _ {t : Table} {vs : RNamed → Option RVar} {around : List ℕ} {R : Reach} (P : Property t vs around R) where
   pub constant_yields : (k : RBase) (z : ℤ) (d : ℕ) → has_number k z ≡ true → Yields P k d (e.Constant k z)
   constant_yields k z d h = (ap kind_of (constant_is k z), subst (λ a. depth a ≤ d + 1) (sym (constant_is k z)) (omega arith), P.constant k z h)
 
@@ -103,7 +103,7 @@ or_right : (a c : Bool) → a ≡ true → (a || c) ≡ true
 or_right true c h = refl
 or_right false c h = cc
 
-module _ {t : Table} {vs : RNamed → Option RVar} {around : List ℕ} (P : Property t vs around) where
+module _ {t : Table} {vs : RNamed → Option RVar} {around : List ℕ} {R : Reach} (P : Property t vs around R) where
   -- a value of the base of a kind is taken there
   pub yields_suits : (j : RKind) (d : ℕ) (o : Option RExpr) → is_ordinal (base_view j.base) ≡ true → IsThere (Yields P j.base d) o → IsThere (Suits P j d) o
   yields_suits j d o h = mapped (Yields P j.base d) (Suits P j d) o (λ x y. (ap (takes_value (kind_view j)) y.0 ∙ takes_base j h, y.1, y.2))
@@ -209,7 +209,7 @@ module _ (t : Table) (told : IsTold t) where
   both_whole : (j : RKind) (w v : Words.Whole) (k : kinds.Kind) → base_view j.base ≡ kinds.OfWhole w → k ≡ kinds.OfWhole v → stores_value (kind_view j) k ≡ true
   both_whole j w v k is of = or_right (takes_value (kind_view j) k) _ (ap (λ i. alike i k) (own_base j ∙ is) ∙ ap (alike (kinds.OfWhole w)) of)
 
-module _ {t : Table} {vs : RNamed → Option RVar} {around : List ℕ} (P : Property t vs around) (told : IsTold t) where
+module _ {t : Table} {vs : RNamed → Option RVar} {around : List ℕ} {R : Reach} (P : Property t vs around R) (told : IsTold t) where
   -- ---- values of types
   own_yields : (r : ℕ) (g : RBase) (d : ℕ) (f : Form) → base_at t (base t r) ≡ Some g → GoesWith P d (k.Of r) f → IsThere (Yields P g d) (own t f)
   own_yields r g d form.Nothing is h = h

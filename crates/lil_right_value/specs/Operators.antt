@@ -19,7 +19,7 @@ use Rattle.lil_resolved.specs.Sound as sound
 use Rattle.lil_resolved.specs.declared.resolved.RBase.TheVariants as b
 use Rattle.lil_resolved.specs.declared.resolved.RExpr.TheVariants as e
 use Rattle.lil_shapes.specs.{BaseLaws.{same_sort, base_words}, Bases.{base_at, composite_at}, Operators.{takes_two, result_base, right_base, right_is, is_a_truth}, Pointers.lies_at}
-use Rattle.lil_forms.specs.{Scopes.{both_left, both_right}, Parts.chained_more, Properties.Property, Values.{typed_by, typed, value_form, one_of, operation, operated}, declared.operators.Built.Built}
+use Rattle.lil_forms.specs.{Scopes.{both_left, both_right}, Parts.chained_more, Properties.{Property, Reach}, Values.{typed_by, typed, value_form, one_of, operation, operated}, declared.operators.Built.Built}
 use Rattle.lil_forms.specs.Values as forms
 use Rattle.lil_operators.specs.{declared.operations.{Chained.Chained, SoFar.{SoFar, TheVariants.{First, Behind}}}, Operations.{greater, limited, raised, one_found, one_applied, one_node, begun, or_cardinal, left_type, before, behind, two_chained, two_given, two_value, two_applied, two_node, whole_form, chain_found}}
 use Rattle.lil_operators.specs.Operations as Operations
@@ -424,7 +424,7 @@ module _ (t : Table) (told : IsTold t) where
       texts true = tt
       texts false = by (constant t a) refl (constant t c) refl
 
-module _ {t : Table} {vs : RNamed → Option RVar} {around : List ℕ} (P : Property t vs around) (told : IsTold t) where
+module _ {t : Table} {vs : RNamed → Option RVar} {around : List ℕ} {R : Reach} (P : Property t vs around R) (told : IsTold t) where
   -- ---- a sign, or NOT
   one_yields : (o : OneOp) (g : RBase) (d : ℕ) (x : Option RExpr) → sound.takes_one o (base_view g) ≡ true → IsThere (Yields P g d) x → IsThere (Yields P g d) (one_of o x)
   one_yields o g d None h y = y

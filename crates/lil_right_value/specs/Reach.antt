@@ -17,7 +17,7 @@ use Rattle.lil_resolved.specs.{Sizes.{place_depth, depth}, Views.{expression_of,
 use Rattle.lil_resolved.specs.declared.resolved.RRoot.TheVariants as root
 use Rattle.lil_resolved.specs.declared.resolved.RSelector.TheVariants as part
 use Rattle.lil_shapes.specs.{Bases.{kind_at, array_at, field_at}, Pointers.{lies_at, target_at, target_with, target_by}}
-use Rattle.lil_forms.specs.{Parts.{placed_is, further_is}, Places.{at_root, further, held_at, element_as, element_by}, Properties.Property, Values.typed, Variables.seen}
+use Rattle.lil_forms.specs.{Parts.{placed_is, further_is}, Places.{at_root, further, held_at, element_as, element_by}, Properties.{Property, Reach}, Values.typed, Variables.seen}
 use Rattle.lil_forms.specs.Places as places
 use Rattle.lil_call.specs.declared.call.Argument.TheVariants as argument
 use Rattle.lil_operators.specs.Operations.{raised}
@@ -25,7 +25,7 @@ use Rattle.lil_check_value.specs.{declared.{designators.{Named.Named, Part.Part,
 use Rattle.lil_check_value.specs.Designators.{place_named, variable_place, kind_by, whole_part, thing_reached, held_field, name_node, root_means, is_misplaced, refused_rows, record_kind, field_of, field_found, field_value, part_field, module_block, other_field_by, other_field, field_node, parts_of, with_index, index_fits, element_found, element_value, index_rows, part_index, other_index, index_node, opaque_kind, target_of, target_found, target_value, part_follow, is_waiting, reached_follow, other_follow, follow_node, located_form, part_found, no_value, is_procedure, text_form, thing_found, named_value, value_node, variable_node, part_callee, thing_callee, callee_node, type_in, no_type_in, part_typed, typed_node}
 use Rattle.lil_check_value.specs.declared.designators.Reached.TheVariants as reached
 use Rattle.lil_right_call.specs.Told.{ArgumentTold, CalleeTold}
-use Rattle.lil_right_type.specs.{Found.{KindTold, LiesAt, GoesWith, bare, IsLocated, HasPlace, IsFound, ThingTold, EnvTold}, Homes.{HasPassing, IsModule, IsSeen, Seen}, Parts.{IsArray, IsPointer, array_is, field_is, target_is, never_opaque}, Right.{Clear, Right, IsThere, IsThereOr, there_or, is_so}, Typed.{Suits, kept_if, assignable_stores, stores_suits}, Types.{IsOrdinal, known_ordinal}}
+use Rattle.lil_right_type.specs.{Found.{reach, KindTold, LiesAt, GoesWith, bare, IsLocated, HasPlace, IsFound, ThingTold, EnvTold}, Homes.{HasPassing, IsModule, Seen}, Parts.{IsArray, IsPointer, array_is, field_is, target_is, never_opaque}, Right.{Clear, Right, IsThere, IsThereOr, there_or, is_so}, Typed.{Suits, kept_if, assignable_stores, stores_suits}, Types.{IsOrdinal, known_ordinal}}
 use Rattle.lil_right_value.specs.{Names.{SeenTold, LookTold, look_told, looked_told, member_seen}, Operators.{IsRaised, raised_is}}
 
 -- ---- depths of places
@@ -47,7 +47,7 @@ index_depth : (p : RPlace) (j : RKind) (x : RExpr) → place_depth (place_of (fu
 index_depth p j x = ap place_depth (further_is p (part.Index j x) ∙ index_is j x (place_of p))
 
 -- the place of a variable, or of a part of one, of a type
-pub record PartTold {t : Table} {vs : RNamed → Option RVar} {around : List ℕ} (P : Property t vs around) (a : Part) : Type 0 where
+pub record PartTold {t : Table} {vs : RNamed → Option RVar} {around : List ℕ} {R : Reach} (P : Property t vs around R) (a : Part) : Type 0 where
   pub sort : ℕ
   pub is : a.kind ≡ k.Of sort
   pub lies : lies_at t sort ≡ true
@@ -56,7 +56,7 @@ pub record PartTold {t : Table} {vs : RNamed → Option RVar} {around : List ℕ
   pub few : a.depth ≤ 12
 
 -- what is used of it
-part_told : {t : Table} {vs : RNamed → Option RVar} {around : List ℕ} (P : Property t vs around) (a : Part) → PartTold P a → IsFound P (part_found a) × IsLocated (located_form a.place)
+part_told : {t : Table} {vs : RNamed → Option RVar} {around : List ℕ} {R : Reach} (P : Property t vs around R) (a : Part) → PartTold P a → IsFound P (part_found a) × IsLocated (located_form a.place)
 part_told {t} P a h = (
   record {
     kind = subst (KindTold t) (sym h.is) h.lies;
@@ -88,13 +88,9 @@ is_other t.Hidden = false
 is_other t.Broken = false
 is_other _ = true
 
-module _ (e : Env) (P : Property e.types (seen e) e.withs) (told : EnvTold e) where
+module _ (e : Env) (P : Property e.types (seen e) e.withs (reach e)) (told : EnvTold e) where
   abbrev pub NamedTold : Thing → Type 0
   NamedTold x = ThingTold e.types e.texts x × (built x ≡ true) × (is_other x ≡ true) × Seen e.procedures (chain e) e x
-
-  -- calls of procedures that are seen here
-  abbrev pub Called : ℕ → ℕ → ℕ → Type 0
-  Called s n levels = IsSeen e.procedures (chain e) s n levels
 
   abbrev pub ReachedTold : Reached → Type 0
   ReachedTold (reached.Part a) = PartTold P a
@@ -330,22 +326,22 @@ module _ (e : Env) (P : Property e.types (seen e) e.withs) (told : EnvTold e) wh
   variable_right (Some (reached.Part a)) h clear = part_told P a h
   variable_right (Some (reached.Other o)) h clear = absurd (true≢false clear.0)
 
-  callee_told : (x : Thing) → NamedTold x → is_misplaced x ≡ false → IsThere (CalleeTold e.types Called) (thing_callee e x)
+  callee_told : (x : Thing) → NamedTold x → is_misplaced x ≡ false → IsThere (CalleeTold e.types (reach e)) (thing_callee e x)
   callee_told (t.Constant kind) h c = tt
   callee_told (t.Named n chars) h c = tt
   callee_told t.Nil h c = tt
   callee_told (t.Variable v) h c = absurd (true≢false (sym h.2))
   callee_told (t.Type s) h c = absurd (true≢false c)
-  callee_told (t.Procedure x) h c = (h.0, h.3)
+  callee_told (t.Procedure x) h c = (h.0, h.3, omega (arith, h.3.low), h.3.few)
   callee_told (t.Resident x s) h c = (h.0.0, h.0.1, h.1)
   callee_told (t.Standard x) h c = h.1
   callee_told (t.Module n) h c = absurd (true≢false c)
   callee_told t.Hidden h c = absurd (true≢false (sym h.2))
   callee_told t.Broken h c = absurd h.0
 
-  pub called_right : (o : Option Reached) → IsThere ReachedTold o → Right (IsThere (CalleeTold e.types Called)) (callee_node e o)
+  pub called_right : (o : Option Reached) → IsThere ReachedTold o → Right (IsThere (CalleeTold e.types (reach e))) (callee_node e o)
   called_right None h clear = h
-  called_right (Some (reached.Part a)) h clear = subst (λ kind. CalleeTold e.types Called (part_callee kind a)) (sym h.is) h.lies
+  called_right (Some (reached.Part a)) h clear = subst (λ kind. CalleeTold e.types (reach e) (part_callee kind a)) (sym h.is) h.lies
   called_right (Some (reached.Other o)) h clear = callee_told o.thing h clear.0
 
   type_told : (p : Place) (x : Thing) → NamedTold x → no_type_in x ≡ false → ArgumentTold P (argument.Type p (type_in x))

@@ -17,7 +17,7 @@ use Rattle.lil_resolved.specs.declared.resolved.RBase.TheVariants as b
 use Rattle.lil_resolved.specs.declared.resolved.RExpr.TheVariants as e
 use Rattle.lil_resolved.specs.declared.resolved.RMember.TheVariants as m
 use Rattle.lil_shapes.specs.{Bases.{base_at, members_at}, declared.members.Members.Members, ListLaws.AllFine}
-use Rattle.lil_forms.specs.{Properties.{Property, value_kind}, Values.{typed, single, span, single_by, span_by, set_by, set_form}}
+use Rattle.lil_forms.specs.{Properties.{Property, Reach, value_kind}, Values.{typed, single, span, single_by, span_by, set_by, set_form}}
 use Rattle.lil_operators.specs.declared.sets.{Operand.Operand, Tally.Tally}
 use Rattle.lil_operators.specs.Operations.{Bounds, Elements, operand_of, with_element, no_elements, kinds_of, joined_one, joined_range, fits_base, operand_fits, operand_rows, span_word, is_member_number, member_number, members, with_members as with_word, deepened, no_tally, tally_by, bounds_node, set_found, set_given, set_end, elements_tally, set_node}
 use Rattle.lil_check_value.specs.Looks.{sort_node, set_sort}
@@ -182,7 +182,7 @@ module _ (t : Table) where
   all_words s y [] h = h
   all_words s y (x ∷ xs) h = all_words s (bounds_node t s y x).0 xs (word_node s y x h)
 
-module _ {t : Table} {vs : RNamed → Option RVar} {around : List ℕ} (P : Property t vs around) where
+module _ {t : Table} {vs : RNamed → Option RVar} {around : List ℕ} {R : Reach} (P : Property t vs around R) where
   -- members that match their bounds, of which a set has the property
   abbrev pub AreMembers : ℕ → List Bounds → List RMember → Type 0
   AreMembers s xs ys = Matches xs ys × ((x : Members) → members_at t s ≡ Some x → P.value (e.Set x.kind ys))

@@ -18,9 +18,9 @@ use Rattle.lil_call.specs.declared.call.Argument.TheVariants as argument
 use Rattle.lil_operators.specs.{declared.operations.Chained.Chained, Operations.{Elements, one_node, begun, two_node, chain_found, joined_one, joined_range, set_node}}
 use Rattle.lil_check_value.specs.{Tree.{Lifts, Truths, Nodes, means_true, variable_true, call_true}, Values.{first_of, whole_node, code_node, text_node, begun_at, means, as_constant, asked_means, variable_means, call_means}, Designators.{root_means, field_node, other_index, index_node, value_node, callee_node, typed_node}, declared.designators.Reached.Reached}
 use Rattle.lil_check_value.specs.declared.designators.Reached.TheVariants as reached
-use Rattle.lil_right_call.specs.{Calls.{call_node_right, statement_node_right}, Told.{ArgumentOr, ArgumentTold, argument_or, arguments_or, CalleeTold, Calls}}
-use Rattle.lil_right_type.specs.{Found.{IsLocated, IsFound, EnvTold}, Homes.IsSeen, Right.{Clear, Right, IsThere, IsThereOr, there_or, given_or, node_or, clear_none, clear_left, clear_right, after_right, is_so}, Typed.is_character_number, Types.own_base}
-use Rattle.lil_right_value.specs.{Operators.{ChainTold, one_node_right, begun_right, two_node_right, chain_right}, Reach.{ReachedTold, Called, root_right, field_right, index_right, follow_right, value_right, variable_right, called_right, typed_right}, Sets.{IsSort, AreElements, no_elements_told, joined_one_told, joined_range_told, set_node_right, set_sort_right}}
+use Rattle.lil_right_call.specs.{Calls.{call_node_right, statement_node_right}, Told.{ArgumentOr, ArgumentTold, argument_or, arguments_or, CalleeTold}}
+use Rattle.lil_right_type.specs.{Found.{reach, IsLocated, IsFound, EnvTold}, Right.{Clear, Right, IsThere, IsThereOr, there_or, given_or, node_or, clear_none, clear_left, clear_right, after_right, is_so}, Typed.is_character_number, Types.own_base}
+use Rattle.lil_right_value.specs.{Operators.{ChainTold, one_node_right, begun_right, two_node_right, chain_right}, Reach.{ReachedTold, root_right, field_right, index_right, follow_right, value_right, variable_right, called_right, typed_right}, Sets.{IsSort, AreElements, no_elements_told, joined_one_told, joined_range_told, set_node_right, set_sort_right}}
 
 -- a phrase is right where its value is, if no test finds a fault
 abbrev Clearly : (A : Type 0) → (A → Type 0) → A × List Row → Type 0
@@ -43,7 +43,7 @@ first_byte (c ∷ cs) h = at c (both_left (is_character c) (is_text cs) h)
     at c h = grind (arith, nat_tests, h)
 
 -- ---- expressions, where W is so if a pointer waits for its target
-module _ (e : Env) (P : Property e.types (seen e) e.withs) (told : EnvTold e) (W : Type 0) (waits : (n : ℕ) → waits_for e n ≡ true → W) where
+module _ (e : Env) (P : Property e.types (seen e) e.withs (reach e)) (told : EnvTold e) (W : Type 0) (waits : (n : ℕ) → waits_for e n ≡ true → W) where
   abbrev FoundOr : Option Found → Type 0
   FoundOr = IsThereOr W (IsFound P)
 
@@ -54,7 +54,7 @@ module _ (e : Env) (P : Property e.types (seen e) e.withs) (told : EnvTold e) (W
   ChainedOr = IsThereOr W (ChainTold P told.types)
 
   abbrev CalleeOr : Option Callee → Type 0
-  CalleeOr = IsThereOr W (CalleeTold e.types (Called e P told))
+  CalleeOr = IsThereOr W (CalleeTold e.types (reach e))
 
   abbrev ElementsOr : Option ℕ → Option Elements → Type 0
   ElementsOr s = IsThereOr W (λ es. AreElements P s (Some es))
@@ -105,7 +105,7 @@ module _ (e : Env) (P : Property e.types (seen e) e.withs) (told : EnvTold e) (W
   call_or p (Some c) xs h all clear = by (arguments_or P W xs all)
     where
       by : AllFine (ArgumentTold P) xs ⊎ (W × (all_have_values xs ≡ false)) → FoundOr (call_node e.types p (Some c) xs).0
-      by (inl fine) = there_or W (IsFound P) (call_node e.types p (Some c) xs).0 (call_node_right P told.types (Called e P told) p (Some c) xs h fine clear)
+      by (inl fine) = there_or W (IsFound P) (call_node e.types p (Some c) xs).0 (call_node_right P told.types p (Some c) xs h fine clear)
       by (inr none) = subst (λ all. FoundOr (if all then value_of e.types p c xs else (None, [])).0) (sym none.1) none.0
 
   begun_at_right : (p : Place) (a : Option Found) → FoundOr a → FoundOr (begun_at p a)
@@ -134,7 +134,7 @@ module _ (e : Env) (P : Property e.types (seen e) e.withs) (told : EnvTold e) (W
     used = node_or W (ReachedTold e P told) (IsFound P) (value_node e.texts) refl (value_right e P told);
     typed = typed_or;
     given = given_or_not;
-    called = node_or W (ReachedTold e P told) (CalleeTold e.types (Called e P told)) (callee_node e) refl (called_right e P told);
+    called = node_or W (ReachedTold e P told) (CalleeTold e.types (reach e)) (callee_node e) refl (called_right e P told);
     call = call_or;
     begun_at = begun_at_right;
   }
@@ -147,7 +147,7 @@ there_asked : {A : Type 0} (P : A → Type 0) (o : Option A) (c : Bool) → (is_
 there_asked P None c none so h = absurd (true≢false (sym so ∙ none))
 there_asked P (Some a) c none so h = h
 
-pub asked_right : (e : Env) (P : Property e.types (seen e) e.withs) → EnvTold e → (x : Expr) → Right (IsThere (IsFound P)) (asked_means e x)
+pub asked_right : (e : Env) (P : Property e.types (seen e) e.withs (reach e)) → EnvTold e → (x : Expr) → Right (IsThere (IsFound P)) (asked_means e x)
 unfolding as_constant
 asked_right e P told x clear =
     let own : Clear (means e x).1 = clear_left (means e x).1 _ clear in
@@ -157,13 +157,13 @@ asked_right e P told x clear =
 none_waits : (ws : List Wait) → ws ≡ [] → (n : ℕ) → list_any (is_wait_for n) ws ≡ true → ⊥
 none_waits ws settled n h = true≢false (sym h ∙ ap (list_any (is_wait_for n)) settled)
 
-module _ (e : Env) (P : Property e.types (seen e) e.withs) (told : EnvTold e) (settled : e.waits ≡ []) where
+module _ (e : Env) (P : Property e.types (seen e) e.withs (reach e)) (told : EnvTold e) (settled : e.waits ≡ []) where
   pub means_right : (x : Expr) → Right (IsThere (IsFound P)) (means e x)
   means_right = means_or e P told ⊥ (none_waits e.waits settled)
 
   pub variable_means_right : (d : Designator) → Right (IsThere (λ a. IsFound P a × IsLocated a.form)) (variable_means e d)
   variable_means_right = variable_true Clearly lifts e (truths e P told ⊥ (none_waits e.waits settled)) (nodes e P told ⊥ (none_waits e.waits settled)) (IsThere (λ a. IsFound P a × IsLocated a.form)) (variable_right e P told)
 
-pub call_means_right : (e : Env) {ts : Scope} (fits : Fits e.types (seen e) e.withs ts) → EnvTold e → e.waits ≡ [] → Calls e.types (IsSeen e.procedures (chain e)) ts → (looping : Bool) (d : Designator) (xs : List Expr) → Right (IsThere (StatementSound ts looping)) (call_means e d xs)
-call_means_right e {ts} fits told settled calls looping =
-    call_true Clearly lifts e (truths e (soundness fits) told ⊥ (none_waits e.waits settled)) (nodes e (soundness fits) told ⊥ (none_waits e.waits settled)) (IsThere (StatementSound ts looping)) (statement_node_right fits told.types looping (IsSeen e.procedures (chain e)) calls)
+pub call_means_right : (e : Env) {ts : Scope} (fits : Fits e.types (seen e) e.withs (reach e) ts) → EnvTold e → e.waits ≡ [] → (looping : Bool) (d : Designator) (xs : List Expr) → Right (IsThere (StatementSound ts looping)) (call_means e d xs)
+call_means_right e {ts} fits told settled looping =
+    call_true Clearly lifts e (truths e (soundness fits) told ⊥ (none_waits e.waits settled)) (nodes e (soundness fits) told ⊥ (none_waits e.waits settled)) (IsThere (StatementSound ts looping)) (statement_node_right fits told.types looping)

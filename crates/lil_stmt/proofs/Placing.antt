@@ -4,8 +4,8 @@ use Rattle.lil_resolved.specs.{Kinds.{Kind, OfWhole}, Resolved.{Designator, Expr
 use Rattle.lil_asm.specs.declared.instr.Instr.{Instr}
 use Rattle.lil_table.specs.Rows.{InstrsAt, Access, access_of, readied, held, held_twice, store_code, again_code, under_code, whole_code, change_operator, change_code, test_code}
 use Rattle.lil_labels.specs.{Drafts.{Draft, Emits, Doing, DoingAll}, Emitting.{emits_then, emits_as}}
-use Rattle.lil_expr.specs.Generating.{Value}
-use Rattle.lil_stmt.specs.Generating.{Stored, Targeted, Stated}
+use Rattle.lil_expr.specs.Generating.{Value, Stored}
+use Rattle.lil_stmt.specs.Generating.{Targeted, Stated}
 use Rattle.lil_stmt.proofs.Storing.{whole}
 
 -- the words that a place takes

@@ -1,8 +1,8 @@
 -- The words of the strings of statements, guards, arms and arguments, one by one.
-use Rattle.std.proofs.Common.{◌≡◌, ℕ, ◌+◌, ◌<◌, List, [], ◌∷◌, ◌++◌, length, map, take, get_or, Option, refl, sym, ap, ◌∙◌, append-nil, append_assoc}
+use Rattle.std.proofs.Common.{◌≡◌, ℕ, ◌+◌, ◌<◌, List, [], ◌∷◌, ◌++◌, length, take, get_or, Option, refl, sym, ap, ◌∙◌, append-nil, append_assoc}
 use Rattle.std.specs.List.{flat_map}
-use Rattle.std.proofs.lemmas.{List.Folds.flat_map-map, Grind.flat_map-append}
-use Rattle.lil_resolved.specs.{declared.resolved.{RArgument.RArgument, RStmt.RStmt, RGuard.RGuard, RArm.RArm}, Resolved.{Statements, Empty, Then}, Views.{joined, argument_of, statement_of, statements_of, guards_of, else_of, arms_of, guard_is, arm_is}, Sizes.{argument_strings, arguments_strings, statement_strings, body_strings, arms_strings}}
+use Rattle.std.proofs.lemmas.Grind.{flat_map-append}
+use Rattle.lil_resolved.specs.{declared.resolved.{RArgument.RArgument, RStmt.RStmt, RGuard.RGuard, RArm.RArm}, Resolved.{Statements, Empty, Then}, Views.{joined, arguments_of, statement_of, statements_of, guards_of, else_of, arms_of, guard_is, arm_is}, Sizes.{arguments_strings, statement_strings, body_strings, arms_strings}}
 use Rattle.lil_labels.specs.{Drafts.{Draft, Meaning, Each, Adds}, Emitting.{take_next, adds_as, each_next}}
 use Rattle.lil_stmt.specs.Generating.{statement_part, guard_part, arm_part, argument_part}
 
@@ -25,8 +25,9 @@ pub body_parts : (ss : List RStmt) → flat_map statement_part ss ≡ body_strin
 body_parts [] = refl
 body_parts (s ∷ ss) = ap (λ (ws : List ℕ). statement_part s ++ ws) (body_parts ss) ∙ sym (joined_strings (statement_of s) (statements_of ss))
 
-pub arguments_parts : (given : List RArgument) → flat_map argument_part given ≡ arguments_strings (map argument_of given)
-arguments_parts given = sym (flat_map-map argument_strings argument_of given)
+pub arguments_parts : (given : List RArgument) → flat_map argument_part given ≡ arguments_strings (arguments_of given)
+arguments_parts [] = refl
+arguments_parts (g ∷ given) = ap (λ (ws : List ℕ). argument_part g ++ ws) (arguments_parts given)
 
 pub if_strings : (gs : List RGuard) (other : List RStmt) → flat_map guard_part gs ++ body_strings (statements_of other) ≡ body_strings (guards_of gs other)
 if_strings [] other = refl

@@ -6,7 +6,8 @@ use Rattle.lil_resolved.specs.declared.shapes.RShape.TheVariants as r
 use Rattle.lil_asm.specs.declared.instr.Instr.{Instr, TheVariants.{Lag, Liw, Mvz}}
 use Rattle.lil_table.specs.Rows.{IsAt, text_words}
 use Rattle.lil_labels.specs.{Entries.{entry, absent, small_at}, Tables.{Tables, elements_in, elements_by}, Drafts.{Draft, Final, Adds, Emits, Saying, DoingAll}, Emitting.{emits_then, emits_as, adds_as, emits_tied}}
-use Rattle.lil_stmt.specs.Generating.{Addressed, Argued, Stated}
+use Rattle.lil_expr.specs.{Generating.Addressed, Calling.Argued}
+use Rattle.lil_stmt.specs.Generating.{Stated}
 
 -- ---- arrays of the tables
 no_row : (ss : List Shape) (n : ℕ) (u : Shape) → fields_of ss ≡ Row n u → ⊥

@@ -1,47 +1,17 @@
 -- What the code means that the generator of statements adds.
-use Rattle.std.specs.Prelude.{◌≡◌, ℕ, ◌+◌, ◌%◌, ◌≤◌, min, pos, negsuc, ◌≤ℤ◌, Bool, true, List, [], ◌∷◌, length, map, Option, Some, None}
+use Rattle.std.specs.Prelude.{◌≡◌, ℕ, ◌+◌, ◌%◌, ◌≤◌, min, pos, negsuc, ◌≤ℤ◌, Bool, List, [], ◌∷◌, length, Option, Some, None}
 use Rattle.std.specs.Option.{is_some, option_map}
 use Rattle.lil_base.specs.Words.{word_of}
-use Rattle.lil_resolved.specs.{declared.resolved.{RArgument.RArgument, RStmt.RStmt, RGuard.RGuard, RArm.RArm, RLabel.RLabel}, Kinds.{Kind, words, is_there, shape_at}, Resolved.{Designator, Expression, Argument, OfAll, Label, Statement, Statements, shape_of}, Views.{argument_of, statement_of, guard_of, statements_of, label_of, shapes_of}, Sizes.{argument_words, argument_strings, body_strings, statement_words, body_words}}
-use Rattle.lil_resolved.specs.Sound.{IsSoundPlace, IsSoundTarget, IsSoundStored, IsSoundArgument, AreSoundArguments, IsSingle, AreSingle, parameter_of, IsSoundStatement, IsSoundBody}
+use Rattle.lil_resolved.specs.{declared.resolved.{RArgument.RArgument, RStmt.RStmt, RGuard.RGuard, RArm.RArm, RLabel.RLabel}, Kinds.{Kind}, Resolved.{Designator, Label, Statement, Statements}, Views.{argument_of, statement_of, guard_of, statements_of, label_of}, Sizes.{argument_strings, body_strings, statement_words, body_words}}
+use Rattle.lil_resolved.specs.Sound.{IsSoundTarget, IsSoundStatement, IsSoundBody}
 use Rattle.lil_asm.specs.declared.instr.Instr.TheVariants.{Jmp, Trp}
-use Rattle.lil_table.specs.Rows.{IsAt, InstrsAt, Access, access_of, address_code, ready_code, readied, PlaceAt, ValueRow, TargetRow, ArgumentAt, PushedRow, GivenAt, given_words, LeaveRow, AlignAt, StatementAt, BodyAt, loop_place}
+use Rattle.lil_table.specs.Rows.{IsAt, InstrsAt, Access, access_of, ready_code, readied, TargetRow, LeaveRow, AlignAt, StatementAt, BodyAt, loop_place}
+use Rattle.lil_expr.specs.Calling.{Argued}
 use Rattle.lil_labels.specs.Drafts.{Final, Meaning, Each, EntryAt, ChoiceAt}
-
--- a sound value that is stored at a place of a kind has its code and its test, where up to 3 words of others stand below its own
-abbrev pub Stored : Expression → Kind → Meaning
-Stored e k x p q = (n : ℕ) → IsSoundStored x.layout.scope e k → n ≤ 3 → ValueRow x.layout x.code n e k p q
-
--- a sound argument has its code, where with its own words and those of others below it there are up to 4
-abbrev pub Argued : Argument → Meaning
-Argued a x p q = (n : ℕ) → IsSoundArgument x.layout.scope a → n + argument_words a ≤ 4 → ArgumentAt x.layout x.code n a p q
 
 -- one of the arguments of a request, and the words of its strings
 abbrev pub ArgumentPart : RArgument → Meaning
 ArgumentPart g x p q = Argued (argument_of g) x p q
-
--- one of those of a call, which takes so many words in the frame
-pub record PushedAt (w : ℕ) (a : Argument) (x : Final) (p q : ℕ) : Type 0 where
-  pub row : PushedRow x.layout x.code a p q
-  pub words : w ≡ words (parameter_of x.layout.scope a)
-
-abbrev pub Pushed : ℕ → Argument → Meaning
-Pushed w a x p q = IsSoundArgument x.layout.scope a → IsSingle a → PushedAt w a x p q
-
-abbrev pub PushedPart : ℕ → RArgument → Meaning
-PushedPart w g x p q = Pushed w (argument_of g) x p q
-
--- all that lies at a place
-abbrev pub Blocked : ℕ → Designator → Meaning
-Blocked w d x p q = Pushed w (OfAll d) x p q
-
--- all of those of a call, and the words that they take there, up to 65,535
-pub record GivenAll (w : ℕ) (given : List Argument) (x : Final) (p q : ℕ) : Type 0 where
-  pub row : GivenAt x.layout x.code given p q
-  pub words : w ≡ min 65535 (given_words x.layout.scope given)
-
-abbrev pub GivenPart : ℕ → List RArgument → Meaning
-GivenPart w given x p q = AreSoundArguments x.layout.scope (map argument_of given) → AreSingle (map argument_of given) → GivenAll w (map argument_of given) x p q
 
 abbrev pub argument_part : RArgument → List ℕ
 argument_part g = argument_strings (argument_of g)
@@ -57,17 +27,6 @@ pub record TargetAt (d : Designator) (a : Access) (k : Kind) (x : Final) (p q : 
 -- a sound place that is stored to has its code, and is then ready
 abbrev pub Targeted : Designator → Access → Meaning
 Targeted d a x p q = (k : Kind) → IsSoundTarget x.layout.scope d k → TargetAt d a k x p q
-
--- a place and its address, and a number of its shape in the tables
-pub record AddressAt (d : Designator) (n : ℕ) (x : Final) (p q : ℕ) : Type 0 where
-  pub found : ℕ
-  pub place : PlaceAt x.layout x.code d p found
-  pub address : InstrsAt x.code (address_code (access_of x.layout d)) found q
-  pub shape : shape_at (shapes_of x.tables.shapes) n ≡ shape_of x.layout.scope d
-
--- a sound place where something lies has its code and its address
-abbrev pub Addressed : Designator → ℕ → Meaning
-Addressed d n x p q = IsSoundPlace x.layout.scope d → is_there (shape_of x.layout.scope d) ≡ true → AddressAt d n x p q
 
 -- Where the variables, and the FORs and WITHs around it take n words of the frame, which are these up to 65,535, a sound statement has its
 -- code where the frame has room for its own. An EXIT leads to a label.

@@ -55,6 +55,7 @@ fn statement_words(statement: &RStmt) -> u16
         | RStmt::Exit
         | RStmt::Halt
         | RStmt::Return
+        | RStmt::Answer(_, _)
         | RStmt::Call(_, _, _) => 0,
     }
 }

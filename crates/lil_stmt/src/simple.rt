@@ -1,33 +1,22 @@
 //! The code of statements without statements in them.
 
-ghost use Rattle.std.specs.{Prelude.{◌≡◌, ℕ, Option, map, IfOk, OnOk}, List.flat_map};
+ghost use Rattle.std.specs.{Prelude.{◌≡◌, ℕ, Option, OnOk}, List.flat_map};
 ghost use Rattle.lil_resolved.specs.Resolved as resolved;
-ghost use Rattle.lil_resolved.specs.{Resolved.{Assign, Copy, Change, Member, New, Allocate, Exit, Call}, Views.{kind_view, place_of, is_down, is_out, is_back, argument_of, expression_of}, Sizes.{words_of, argument_strings, arguments_strings}};
+ghost use Rattle.lil_resolved.specs.{Resolved.{Assign, Copy, Change, Member, New, Allocate, Exit, Answer}, Views.{arguments_of, kind_view, place_of, is_down, is_out, is_back, argument_of, expression_of}, Sizes.{words_of, argument_strings, arguments_strings}};
 ghost use Rattle.lil_asm.specs.Bytes.{Sayable};
 ghost use Rattle.lil_table.specs.Rows.{member_code, allocate_code};
 ghost use Rattle.lil_labels.specs.Drafts.{DoingAll, Each, Adds, Emits};
-ghost use Rattle.lil_stmt.specs.Generating.{Stated, Stored, Argued, ArgumentPart, PushedPart, GivenPart, Blocked, argument_part};
+ghost use Rattle.lil_expr.specs.Calling.{Argued};
+ghost use Rattle.lil_stmt.specs.Generating.{Stated, ArgumentPart, argument_part};
 
 use crate::kinds::{change_instr, counted_base};
 use crate::statements::Around;
-use crate::targets::{emit_address_of, emit_again, emit_store, emit_target, emit_under};
+use crate::targets::{emit_again, emit_store, emit_target, emit_under};
 use lil_asm::Instr;
 use lil_base::{Memory, Request, Text};
-use lil_expr::{emit_expression, emit_test};
+use lil_expr::{emit_address_of, emit_expression, emit_single, emit_test, emit_tested};
 use lil_labels::{Aim, CodeBuffer};
-use lil_resolved::{
-    Allocation, Direction, Membership, RArgument, RBase, RExpr, RKind, RPlace, base,
-};
-
-/// Appends the code of a value that is to be stored where one of a kind is wanted, and its test.
-#[tactic(auto, using(crate::proofs::Storing::whole))]
-fn emit_value(code: &mut CodeBuffer<'_>, value: &RExpr, kind: RKind) -> Result<(), Memory>
-    ensures { OnOk result (Emits code.old code.new (Stored (expression_of value.now) (kind_view kind))) }
-{
-    emit_expression(code, value)?;
-    emit_test(code, kind, base(value))?;
-    Ok(())
-}
+use lil_resolved::{Allocation, Direction, Membership, RArgument, RBase, RExpr, RKind, RPlace};
 
 /// Appends the code of an assignment: the place, made ready, the value, its test, and the store.
 pub(crate) fn emit_assign(
@@ -39,7 +28,7 @@ pub(crate) fn emit_assign(
     ensures { OnOk result ((n : ℕ) (exit : Option ℕ) → Emits code.old code.new (Stated n exit (Assign (place_of place.now) (kind_view kind) (expression_of value.now)))) }
 {
     let target = emit_target(code, place)?;
-    emit_value(code, value, kind)?;
+    emit_tested(code, kind, value)?;
     emit_store(code, target)
 }
 
@@ -109,7 +98,7 @@ pub(crate) fn emit_member(
     ensures { OnOk result ((n : ℕ) (exit : Option ℕ) → Emits code.old code.new (Stated n exit (Member (is_out membership) (place_of place.now) (kind_view kind) (expression_of number.now)))) }
 {
     emit_address_of(code, place)?;
-    emit_value(code, number, kind)?;
+    emit_tested(code, kind, number)?;
     code.put(member_instr(membership))?;
     Ok(())
 }
@@ -157,7 +146,7 @@ pub(crate) fn emit_allocate(
         range: None,
     };
     emit_address_of(code, place)?;
-    emit_value(code, words, cardinal)?;
+    emit_tested(code, cardinal, words)?;
     emit_allocation(code, allocation)?;
     Ok(())
 }
@@ -178,7 +167,7 @@ pub(crate) fn emit_request(
     request: Request,
     given: &[RArgument],
 ) -> Result<(), Memory>
-    ensures { OnOk result ((n : ℕ) (exit : Option ℕ) → Adds (arguments_strings (map argument_of given.now)) code.old code.new (Stated n exit (resolved.Request request (map argument_of given.now)))) }
+    ensures { OnOk result ((n : ℕ) (exit : Option ℕ) → Adds (arguments_strings (arguments_of given.now)) code.old code.new (Stated n exit (resolved.Request request (arguments_of given.now)))) }
 {
     emit_arguments(code, given)?;
     code.put(Instr::Svc(request.number()))
@@ -194,17 +183,15 @@ fn emit_arguments(code: &mut CodeBuffer<'_>, given: &[RArgument]) -> Result<(), 
     Ok(())
 }
 
-/// Appends the code of an argument: a value and its test; the address of a place; or the address of an array or of a string,
-/// and the number of its last element.
+/// Appends the code of an argument: one word of the expression stack, or two for an open array: the address of an array or of a
+/// string, and the number of its last element.
 fn emit_argument(code: &mut CodeBuffer<'_>, argument: &RArgument) -> Result<(), Memory>
     ensures { OnOk result (Adds (argument_strings (argument_of argument.now)) code.old code.new (Argued (argument_of argument.now))) }
 {
     match argument {
-        RArgument::Value(kind, value) => emit_value(code, value, *kind),
-        RArgument::Place(place) | RArgument::All(place) => {
-            emit_address_of(code, place)?;
-            Ok(())
-        }
+        RArgument::Value(_, _) | RArgument::Place(_) | RArgument::All(_) => emit_single(
+            code, argument,
+        ),
         RArgument::Array(place, high) => {
             emit_address_of(code, place)?;
             code.put(Instr::Liw(*high))
@@ -228,53 +215,14 @@ pub(crate) fn emit_exit(code: &mut CodeBuffer<'_>, around: Around) -> Result<(),
     }
 }
 
-/// Appends a call of a procedure that is declared so many levels out: the mark, the arguments, each of which goes to the
-/// frame that the mark begins, and the call itself. A frame that more words go to than a store has is never entered.
-pub(crate) fn emit_call(
+/// Appends the code of a RETURN with a value: the value, its test, and the return.
+pub(crate) fn emit_answer(
     code: &mut CodeBuffer<'_>,
-    procedure: u8,
-    levels: u8,
-    given: &[RArgument],
+    kind: RKind,
+    answer: &RExpr,
 ) -> Result<(), Memory>
-    ensures { OnOk result ((n : ℕ) (exit : Option ℕ) → Adds (arguments_strings (map argument_of given.now)) code.old code.new (Stated n exit (Call procedure levels (map argument_of given.now)))) }
+    ensures { OnOk result ((n : ℕ) (exit : Option ℕ) → Emits code.old code.new (Stated n exit (Answer (kind_view kind) (expression_of answer.now)))) }
 {
-    code.put(Instr::Mrk(levels))?;
-    let words = emit_given(code, given)?;
-    code.put(Instr::Cll(procedure, words))
-}
-
-/// Appends the code of the arguments of a call, and says how many words they take in the frame that it begins, up to 65,535.
-fn emit_given(code: &mut CodeBuffer<'_>, given: &[RArgument]) -> Result<u16, Memory>
-    ensures { IfOk result (λ words. Adds (flat_map argument_part given.now) code.old code.new (GivenPart words given.now)) }
-{
-    let mut words: u16 = 0;
-    for argument in given {
-        words = words.saturating_add(emit_pushed(code, argument)?);
-    }
-    Ok(words)
-}
-
-/// Appends the code of an argument, whose word goes from the expression stack to the frame that a call begins, or all that lies
-/// at a place, and says how many words it takes there.
-fn emit_pushed(code: &mut CodeBuffer<'_>, argument: &RArgument) -> Result<u16, Memory>
-    ensures { IfOk result (λ words. Adds (argument_part argument.now) code.old code.new (PushedPart words argument.now)) }
-{
-    match argument {
-        RArgument::All(place) => emit_block(code, place),
-        _ => {
-            emit_argument(code, argument)?;
-            code.put(Instr::Psh)?;
-            Ok(1)
-        }
-    }
-}
-
-/// Appends what brings all that lies at a place to the frame that a call begins, and says how many words it takes.
-fn emit_block(code: &mut CodeBuffer<'_>, place: &RPlace) -> Result<u16, Memory>
-    ensures { IfOk result (λ words. Emits code.old code.new (Blocked words (place_of place.now))) }
-{
-    let shape = emit_address_of(code, place)?;
-    let words = code.words(shape);
-    code.put(Instr::Psm(words))?;
-    Ok(words)
+    emit_tested(code, kind, answer)?;
+    code.put(Instr::Rtn)
 }

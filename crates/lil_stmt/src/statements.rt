@@ -9,14 +9,14 @@ use crate::cases::emit_choice;
 use crate::kinds::{emit_turn_test, loop_sign};
 use crate::loops::loop_place;
 use crate::simple::{
-    emit_allocate, emit_assign, emit_call, emit_change, emit_copy, emit_exit, emit_member,
+    emit_allocate, emit_answer, emit_assign, emit_change, emit_copy, emit_exit, emit_member,
     emit_new, emit_request, emit_text,
 };
 use crate::starts::emit_align;
-use crate::targets::{emit_address_of, emit_store};
+use crate::targets::emit_store;
 use lil_asm::Instr;
 use lil_base::Memory;
-use lil_expr::{emit_expression, variable_access, word_of_number};
+use lil_expr::{emit_address_of, emit_call, emit_expression, variable_access, word_of_number};
 use lil_labels::{Aim, CodeBuffer};
 use lil_resolved::{RArm, RExpr, RGuard, RPlace, RStmt, RVariable};
 
@@ -75,6 +75,7 @@ fn emit_statement(
         RStmt::Exit => emit_exit(code, around),
         RStmt::Halt => code.put(Instr::Trp(9)),
         RStmt::Return => code.put(Instr::Rtn),
+        RStmt::Answer(kind, value) => emit_answer(code, *kind, value),
         RStmt::Call(procedure, levels, given) => {
             emit_call(code, *procedure, *levels, given.as_slice())
         }

@@ -5,11 +5,11 @@ ghost use Rattle.lil_resolved.specs.Views.{place_of};
 ghost use Rattle.lil_table.specs.Rows.{store_code, again_code, under_code};
 ghost use Rattle.lil_labels.specs.Drafts.{Doing, DoingAll, Emits};
 ghost use Rattle.lil_expr.specs.Accesses.{access_view};
-ghost use Rattle.lil_stmt.specs.Generating.{Addressed, Readied, Targeted};
+ghost use Rattle.lil_stmt.specs.Generating.{Readied, Targeted};
 
 use lil_asm::Instr;
 use lil_base::Memory;
-use lil_expr::{Access, emit_address, emit_place};
+use lil_expr::{Access, emit_place};
 use lil_labels::CodeBuffer;
 use lil_resolved::RPlace;
 
@@ -19,15 +19,6 @@ pub(crate) fn emit_target(code: &mut CodeBuffer<'_>, of: &RPlace) -> Result<Acce
 {
     let at = emit_place(code, of)?;
     emit_ready(code, at.access)
-}
-
-/// Appends the code of a place and of its address, and gives a number of its shape.
-pub(crate) fn emit_address_of(code: &mut CodeBuffer<'_>, of: &RPlace) -> Result<usize, Memory>
-    ensures { IfOk result (λ shape. Emits code.old code.new (Addressed (place_of of.now) shape)) }
-{
-    let at = emit_place(code, of)?;
-    emit_address(code, at.access)?;
-    Ok(at.shape)
 }
 
 /// Appends what makes a place ready for a store, and says how code then has it: an address on the expression stack becomes

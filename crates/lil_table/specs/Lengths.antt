@@ -3,11 +3,11 @@ use Rattle.std.proofs.Common.{◌≡◌, ℕ, zero, suc, ◌+◌, ◌*◌, ◌�
 use Rattle.lil_base.specs.{Words.{Whole, Cardinal, Integer, word_of}, declared.operator.{OneOp.OneOp, TwoOp.{TwoOp, TheVariants.{Equal, Unequal, Less, AtMost, Greater, AtLeast, In, Plus, Minus, Times, Slash, Or, And}}}, Requests.request_number}
 use Rattle.lil_base.specs.declared.operator.OneOp.TheVariants as one
 use Rattle.lil_resolved.specs.Kinds.{Kind, OfWhole, OfCharacter, OfSet, OfPointer, base_of, compared_as, covers, shared, outside_turns, Shape, words, all_words, shape_at}
-use Rattle.lil_resolved.specs.Resolved.{Named, OfModule, OfLevel, Designator, Variable, Handed, Held, Field, Element, Follow, Function, Abs, Cap, Chr, Odd, Ord, Val, Expression, Constant, Taken, One, Two, Short, Apply, With, WithSpan, Argument, ByValue, OfPlace, OfAll, OfArray, OfText, Label, Statement, Assign, Copy, Text, Change, Member, New, Allocate, Request, If, Case, While, Repeat, Loop, Exit, Halt, Return, Call, For, Inside, Statements, Empty, Then, Arms, NoElse, Else, Arm, Procedure, Resolved, kind_of, counted_as, shape_of}
-use Rattle.lil_resolved.specs.Sizes.{statement_words, body_words, arms_words, frame_words, argument_words, argument_size, pushed_size, handed_size, one_size, two_size, test_size, function_size, Form, Direct, Outward, variable_form, Exact, Beyond, field_form, form_of, address_size, load_size, ready_size, store_size, again_size, under_size, place_size, target_size, size, arguments_size, allocate_size, statement_size, body_size, arms_size, framed_size, procedures_size, code_size}
+use Rattle.lil_resolved.specs.Resolved.{Named, OfModule, OfLevel, Designator, Variable, Handed, Held, Field, Element, Follow, Function, Abs, Cap, Chr, Odd, Ord, Val, Expression, Constant, Taken, One, Two, Short, Apply, With, WithSpan, Invoke, Argument, ByValue, OfPlace, OfAll, OfArray, OfText, Arguments, NoMore, Also, Label, Statement, Assign, Copy, Text, Change, Member, New, Allocate, Request, If, Case, While, Repeat, Loop, Exit, Halt, Return, Answer, Call, For, Inside, Statements, Empty, Then, Arms, NoElse, Else, Arm, Procedure, Resolved, kind_of, counted_as, shape_of}
+use Rattle.lil_resolved.specs.Sizes.{statement_words, body_words, arms_words, frame_words, argument_words, argument_size, pushed_size, handed_size, one_size, two_size, test_size, function_size, Form, Direct, Outward, variable_form, Exact, Beyond, field_form, form_of, address_size, load_size, ready_size, store_size, again_size, under_size, place_size, target_size, size, arguments_size, allocate_size, statement_size, body_size, arms_size, leave_size, framed_size, procedures_size, code_size}
 use Rattle.lil_resolved.specs.Sound.{takes_two}
-use Rattle.lil_asm.specs.{declared.instr.Instr.{Instr, TheVariants.{Liw, Lag, Dup, Drp, Nlt, Llw, Slw, Swp, Rgc, Lsi, Spn, Mrk, Psh, Psm, Cll, Ent, Rtn, Jmp, Jpf, Cas, Fri, Frn, Trp, Alc, Svc}}, Bytes.bytes_of, Decoding.decoded_stands, Stretches.stretch}
-use Rattle.lil_table.specs.Rows.{Layout, given_words, framed, in_procedure, holding, ArgumentAt, GivenAt, IsAt, InstrsAt, one_code, whole_code, two_code, range_code, test_code, function_code, Access, InData, InFrame, access_at, OnTop, Behind, further, access_of, address_code, load_code, ready_code, readied, held, store_code, again_code, under_code, change_operator, change_code, member_code, allocate_code, short_code, loop_place, loop_sign, ValueRow, TargetRow, EntriesAt, AlignAt, PlaceAt, ExpressionAt, ArgumentsAt, StatementAt, BodyAt, ArmsAt, FramedRow, ProceduresAt, TranslatesBy}
+use Rattle.lil_asm.specs.{declared.instr.Instr.{Instr, TheVariants.{Liw, Lag, Dup, Drp, Nlt, Llw, Slw, Swp, Rgc, Lsi, Spn, Sav, Rst, Mrk, Psh, Psm, Cll, Ent, Rtn, Jmp, Jpf, Cas, Fri, Frn, Trp, Alc, Svc}}, Bytes.bytes_of, Decoding.decoded_stands, Stretches.stretch}
+use Rattle.lil_table.specs.Rows.{Layout, given_words, framed, in_procedure, holding, ArgumentAt, GivenAt, IsAt, InstrsAt, one_code, whole_code, two_code, range_code, test_code, function_code, Access, InData, InFrame, access_at, OnTop, Behind, further, access_of, address_code, load_code, ready_code, readied, held, store_code, again_code, under_code, change_operator, change_code, member_code, allocate_code, short_code, loop_place, loop_sign, ValueRow, TargetRow, EntriesAt, AlignAt, PlaceAt, ExpressionAt, ArgumentsAt, StatementAt, BodyAt, ArmsAt, leave_code, FramedRow, ProceduresAt, TranslatesBy}
 
 -- the bytes of an instruction, and of several
 abbrev pub instr_size : Instr → ℕ
@@ -243,6 +243,37 @@ mutual
         test_long code k (kind_of b) h.last h.end h.last_test,
         instr_long code h.end Spn q h.by,
       )
+  expression_long l code (Invoke x n k given) p q h =
+      omega (
+        arith,
+        instr_long code p Sav h.saved h.save,
+        instr_long code h.saved (Mrk n) h.call.start h.call.mark,
+        given_long l code given h.call.start h.call.middle h.call.arguments,
+        instr_long code h.call.middle (Cll x (framed (given_words l.scope given))) h.end h.call.call,
+        instr_long code h.end (Rst 1) q h.restore,
+      )
+
+  argument_long : (l : Layout) (code : List ℕ) (n : ℕ) (a : Argument) (p q : ℕ) → ArgumentAt l code n a p q → q ≡ p + argument_size a
+  argument_long l code n (ByValue k e) p q h = omega (arith, expression_long l code e p h.middle h.value.value, test_long code k (kind_of e) h.middle q h.test)
+  argument_long l code n (OfPlace d) p q h = omega (arith, place_long l code d p h.found h.here, instrs_long code (address_code (access_of l d)) h.found q h.address, address_sized (access_of l d), ap address_size (formed l d))
+  argument_long l code n (OfAll d) p q h = omega (arith, place_long l code d p h.found h.here, instrs_long code (address_code (access_of l d)) h.found q h.address, address_sized (access_of l d), ap address_size (formed l d))
+  argument_long l code n (OfArray d high) p q h =
+      omega (arith, place_long l code d p h.found h.here, instrs_long code (address_code (access_of l d)) h.found h.start h.address, address_sized (access_of l d), ap address_size (formed l d), instr_long code h.start (Liw high) q h.by)
+  argument_long l code n (OfText cs) p q h = omega (arith, instr_long code p (Lag h.offset) h.start h.address, instr_long code h.start _ q h.by)
+
+  -- those of a call, each with the instruction that pushes it
+  given_long : (l : Layout) (code : List ℕ) (given : Arguments) (p q : ℕ) → GivenAt l code given p q → q ≡ p + pushed_size given
+  given_long l code NoMore p q h = omega (arith, h)
+  given_long l code (Also (ByValue k e) given) p q h = omega (arith, argument_long l code 0 (ByValue k e) p h.1.here.middle h.1.here.here, instr_long code h.1.here.middle Psh h.1.middle h.1.here.push, given_long l code given h.1.middle q h.1.then)
+  given_long l code (Also (OfPlace d) given) p q h = omega (arith, argument_long l code 0 (OfPlace d) p h.1.here.middle h.1.here.here, instr_long code h.1.here.middle Psh h.1.middle h.1.here.push, given_long l code given h.1.middle q h.1.then)
+  given_long l code (Also (OfAll d) given) p q h = omega (arith, argument_long l code 0 (OfAll d) p h.1.here.middle h.1.here.here, instr_long code h.1.here.middle (Psm (words (shape_of l.scope d))) h.1.middle h.1.here.push, given_long l code given h.1.middle q h.1.then)
+  given_long l code (Also (OfArray d high) given) p q h = absurd h.0
+  given_long l code (Also (OfText cs) given) p q h = absurd h.0
+
+-- a place and its address
+addressed_long : (l : Layout) (code : List ℕ) (d : Designator) (p found q : ℕ) → PlaceAt l code d p found → InstrsAt code (address_code (access_of l d)) found q → q ≡ p + (place_size d + address_size (form_of d))
+addressed_long l code d p found q h i =
+    omega (arith, place_long l code d p found h, instrs_long code (address_code (access_of l d)) found q i, address_sized (access_of l d), ap address_size (formed l d))
 
 value_long : (l : Layout) (code : List ℕ) (n : ℕ) (e : Expression) (k : Kind) (p q : ℕ) → ValueRow l code n e k p q → q ≡ p + (size e + test_size k (kind_of e))
 value_long l code n e k p q h = omega (arith, expression_long l code e p h.middle h.value.value, test_long code k (kind_of e) h.middle q h.test)
@@ -251,30 +282,9 @@ target_long : (l : Layout) (code : List ℕ) (d : Designator) (k : Kind) (p q : 
 target_long l code d k p q h =
     omega (arith, place_long l code d p h.found h.here, instrs_long code (ready_code (access_of l d)) h.found q h.ready, ready_sized (access_of l d), ap ready_size (formed l d))
 
--- a place and its address
-addressed_long : (l : Layout) (code : List ℕ) (d : Designator) (p found q : ℕ) → PlaceAt l code d p found → InstrsAt code (address_code (access_of l d)) found q → q ≡ p + (place_size d + address_size (form_of d))
-addressed_long l code d p found q h i =
-    omega (arith, place_long l code d p found h, instrs_long code (address_code (access_of l d)) found q i, address_sized (access_of l d), ap address_size (formed l d))
-
-argument_long : (l : Layout) (code : List ℕ) (n : ℕ) (a : Argument) (p q : ℕ) → ArgumentAt l code n a p q → q ≡ p + argument_size a
-argument_long l code n (ByValue k e) p q h = value_long l code n e k p q h
-argument_long l code n (OfPlace d) p q h = addressed_long l code d p h.found q h.here h.address
-argument_long l code n (OfAll d) p q h = addressed_long l code d p h.found q h.here h.address
-argument_long l code n (OfArray d high) p q h = omega (arith, addressed_long l code d p h.found h.start h.here h.address, instr_long code h.start (Liw high) q h.by)
-argument_long l code n (OfText cs) p q h = omega (arith, instr_long code p (Lag h.offset) h.start h.address, instr_long code h.start _ q h.by)
-
-arguments_long : (l : Layout) (code : List ℕ) (n : ℕ) (given : List Argument) (p q : ℕ) → ArgumentsAt l code n given p q → q ≡ p + arguments_size given
-arguments_long l code n [] p q h = omega (arith, h)
-arguments_long l code n (a ∷ given) p q h = omega (arith, argument_long l code n a p h.middle h.here, arguments_long l code (argument_words a + n) given h.middle q h.then)
-
--- those of a call, each with the instruction that pushes it
-given_long : (l : Layout) (code : List ℕ) (given : List Argument) (p q : ℕ) → GivenAt l code given p q → q ≡ p + pushed_size given
-given_long l code [] p q h = omega (arith, h)
-given_long l code (ByValue k e ∷ given) p q h = omega (arith, argument_long l code 0 (ByValue k e) p h.1.here.middle h.1.here.here, instr_long code h.1.here.middle Psh h.1.middle h.1.here.push, given_long l code given h.1.middle q h.1.then)
-given_long l code (OfPlace d ∷ given) p q h = omega (arith, argument_long l code 0 (OfPlace d) p h.1.here.middle h.1.here.here, instr_long code h.1.here.middle Psh h.1.middle h.1.here.push, given_long l code given h.1.middle q h.1.then)
-given_long l code (OfAll d ∷ given) p q h = omega (arith, argument_long l code 0 (OfAll d) p h.1.here.middle h.1.here.here, instr_long code h.1.here.middle (Psm (words (shape_of l.scope d))) h.1.middle h.1.here.push, given_long l code given h.1.middle q h.1.then)
-given_long l code (OfArray d high ∷ given) p q h = absurd h.0
-given_long l code (OfText cs ∷ given) p q h = absurd h.0
+arguments_long : (l : Layout) (code : List ℕ) (n : ℕ) (given : Arguments) (p q : ℕ) → ArgumentsAt l code n given p q → q ≡ p + arguments_size given
+arguments_long l code n NoMore p q h = omega (arith, h)
+arguments_long l code n (Also a given) p q h = omega (arith, argument_long l code n a p h.middle h.here, arguments_long l code (argument_words a + n) given h.middle q h.then)
 
 align_long : (l : Layout) (code : List ℕ) (same turns : Bool) (p start q : ℕ) → AlignAt l code same turns p start q → start ≡ p + (if same then 0 else (if turns then 7 else 15))
 align_long l code true turns p start q h = omega (arith, h)
@@ -356,7 +366,8 @@ mutual
   statement_long l code n exit (Loop body) p q h = omega (arith, body_long l code n (Some (l.target q)) body p h.end h.here, instr_long code h.end (Jmp (l.target p)) q h.back)
   statement_long l code n exit Exit p q h = instr_long code p (Jmp h.to) q h.jump
   statement_long l code n exit Halt p q h = instr_long code p (Trp 9) q h
-  statement_long l code n exit Return p q h = instr_long code p Rtn q h
+  statement_long l code n exit Return p q h = instr_long code p Rtn q h.1
+  statement_long l code n exit (Answer k e) p q h = omega (arith, value_long l code 0 e k p h.middle h.value, instr_long code h.middle Rtn q h.leave)
   statement_long l code n exit (Call x i given) p q h =
       omega (arith, instr_long code p (Mrk i) h.start h.mark, given_long l code given h.start h.middle h.arguments, instr_long code h.middle (Cll x (framed (given_words l.scope given))) q h.call)
   statement_long l code n exit (For x k a b step body) p q h =
@@ -396,19 +407,23 @@ mutual
       let left = entries_end code k labels (l.target p) (ArmsAt l code n exit k rest leave other table h.gap) t w h.entries in
       omega (arith, body_long l code n exit body p h.end h.here, instr_long code h.end (Jmp (l.target leave)) h.gap h.leave, left.2, arms_long l code n exit k rest leave other table h.gap left.0 left.1 left.3)
 
-pub framed_long : (l : Layout) (code : List ℕ) (locals : List Shape) (ss : Statements) (p q : ℕ) → FramedRow l code locals ss p q → q ≡ p + framed_size ss
-framed_long l code locals ss p q h =
-    omega (arith, instr_long code p (Ent (framed (frame_words locals ss))) h.start h.enter, body_long l code (all_words locals) None ss h.start h.end h.body, instr_long code h.end Rtn q h.leave)
+leave_sized : (result : Option Kind) → instr_size (leave_code result) ≡ leave_size result
+leave_sized None = refl
+leave_sized (Some k) = refl
+
+pub framed_long : (l : Layout) (code : List ℕ) (result : Option Kind) (locals : List Shape) (ss : Statements) (p q : ℕ) → FramedRow l code result locals ss p q → q ≡ p + framed_size result ss
+framed_long l code result locals ss p q h =
+    omega (arith, instr_long code p (Ent (framed (frame_words locals ss))) h.start h.enter, body_long l code (all_words locals) None ss h.start h.end h.body, instr_long code h.end (leave_code result) q h.leave, leave_sized result)
 
 pub procedures_long : (l : Layout) (code : List ℕ) (n : ℕ) (ps : List Procedure) (es : List ℕ) (p q : ℕ) → ProceduresAt l code n ps es p q → q ≡ p + procedures_size ps
 procedures_long l code n [] [] p q h = omega (arith, h)
-procedures_long l code n (its ∷ ps) (e ∷ es) p q h = omega (arith, framed_long (in_procedure l n its) (stretch p h.1.middle code) its.locals its.body p h.1.middle h.1.here, procedures_long l code (suc n) ps es h.1.middle q h.1.then)
+procedures_long l code n (its ∷ ps) (e ∷ es) p q h = omega (arith, framed_long (in_procedure l n its) (stretch p h.1.middle code) its.result its.locals its.body p h.1.middle h.1.here, procedures_long l code (suc n) ps es h.1.middle q h.1.then)
 procedures_long l code n [] (e ∷ es) p q h = absurd h
 procedures_long l code n (its ∷ ps) [] p q h = absurd h
 
 -- any translation of a module has as many bytes as its size says
 pub module_long : (l : Layout) (m : Resolved) (entries code : List ℕ) → TranslatesBy l m entries code → length code ≡ code_size m
-module_long l m entries code h = omega (arith, framed_long l (stretch 0 h.middle code) [] m.body 0 h.middle h.body, procedures_long l code 1 m.procedures entries h.middle (length code) h.procedures)
+module_long l m entries code h = omega (arith, framed_long l (stretch 0 h.middle code) None [] m.body 0 h.middle h.body, procedures_long l code 1 m.procedures entries h.middle (length code) h.procedures)
 
 -- ---- a frame has no more words than its code has bytes
 mutual

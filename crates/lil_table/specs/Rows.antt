@@ -4,11 +4,11 @@ use Rattle.std.specs.Prelude.{◌≡◌, ℕ, zero, suc, ◌+◌, ◌-◌, ◌*�
 use Rattle.lil_base.specs.{Words.{Whole, Cardinal, Integer, word_of}, declared.operator.{OneOp.OneOp, TwoOp.{TwoOp, TheVariants.{Equal, Unequal, Less, AtMost, Greater, AtLeast, In, Plus, Minus, Times, Slash, Div, Mod}}}, Requests.request_number}
 use Rattle.lil_base.specs.declared.operator.OneOp.TheVariants as one
 use Rattle.lil_base.specs.declared.request.Request as request
-use Rattle.lil_resolved.specs.Kinds.{Objects, Workspaces, Kind, OfWhole, OfTruth, OfCharacter, OfSet, OfPointer, base_of, is_ordinal, is_set, is_plain, is_element, takes_value, stores_value, compared_as, covers, shared, outside_turns, least, numbers, Scalar, is_literal, scalar_word, Shape, Address, Word, Row, Scope, with_held, MayCall, parameters_of, parameters_at, locals_at, words, is_there, part_at, offset, all_words, offsets_from, shape_at, element_of, procedure_by}
-use Rattle.lil_resolved.specs.Resolved.{Named, OfModule, OfLevel, variable_at, Designator, Variable, Handed, Held, Field, Element, Follow, Function, Abs, Cap, Chr, Odd, Ord, Val, Expression, Constant, Taken, One, Two, Short, Apply, With, WithSpan, Argument, ByValue, OfPlace, OfAll, OfArray, OfText, Label, Statement, Assign, Copy, Text, Change, Member, New, Allocate, Request, If, Case, While, Repeat, Loop, Exit, Halt, Return, Call, For, Inside, Statements, Empty, Then, Arms, NoElse, Else, Arm, Procedure, Resolved, scope_in, kind_of, right_kind, counted_as, shape_of}
-use Rattle.lil_resolved.specs.{Sizes.{place_depth, depth, frame_words, argument_words}, Sound.{AreServed, takes_one, takes_two, takes_function, IsScalar, IsSoundLabel, IsStep, is_text, request_parameters, parameter_of, IsSingle}}
+use Rattle.lil_resolved.specs.Kinds.{Objects, Workspaces, Kind, OfWhole, OfTruth, OfCharacter, OfSet, OfPointer, base_of, is_ordinal, is_set, is_plain, is_element, takes_value, stores_value, compared_as, covers, shared, outside_turns, least, numbers, Scalar, is_literal, scalar_word, Shape, Address, Word, Row, Scope, with_held, MayCall, parameters_of, result_of, result_here, parameters_at, locals_at, words, is_there, part_at, offset, all_words, offsets_from, shape_at, element_of, procedure_by}
+use Rattle.lil_resolved.specs.Resolved.{Named, OfModule, OfLevel, variable_at, Designator, Variable, Handed, Held, Field, Element, Follow, Function, Abs, Cap, Chr, Odd, Ord, Val, Expression, Constant, Taken, One, Two, Short, Apply, With, WithSpan, Invoke, Argument, ByValue, OfPlace, OfAll, OfArray, OfText, Arguments, NoMore, Also, Label, Statement, Assign, Copy, Text, Change, Member, New, Allocate, Request, If, Case, While, Repeat, Loop, Exit, Halt, Return, Answer, Call, For, Inside, Statements, Empty, Then, Arms, NoElse, Else, Arm, Procedure, Resolved, scope_in, kind_of, right_kind, counted_as, shape_of}
+use Rattle.lil_resolved.specs.{Sizes.{place_depth, depth, frame_words, argument_words}, Sound.{AreServed, takes_one, takes_two, takes_function, IsScalar, IsSoundLabel, IsStep, is_text, request_parameters, parameter_of, parameters_given, IsSingle}}
 use Rattle.lil_asm.specs.declared.instr.Instr.{Instr}
-use Rattle.lil_asm.specs.declared.instr.Instr.TheVariants.{Liw, Dup, Drp, Llw, Slw, Lgw, Sgw, Lnw, Snw, Lal, Lan, Lag, Ldi, Sti, Ldf, Adf, Mov, Mvz, Nlt, Ixc, Swp, Rgc, Rgi, Cap, Adc, Sbc, Mlc, Dvc, Mdc, Adi, Sbi, Mli, Dvi, Mdi, Ngi, Abi, Uni, Dif, Its, Sym, Sin, Spn, Icl, Ecl, Sle, Not, Equ, Neq, Lsc, Lec, Lsi, Lei, Mrk, Psh, Psm, Cll, Ent, Rtn, Jmp, Jpf, Jan, Jor, Cas, Fri, Frn, Trp, Alc, Svc}
+use Rattle.lil_asm.specs.declared.instr.Instr.TheVariants.{Liw, Dup, Drp, Llw, Slw, Lgw, Sgw, Lnw, Snw, Lal, Lan, Lag, Ldi, Sti, Ldf, Adf, Mov, Mvz, Nlt, Ixc, Swp, Rgc, Rgi, Cap, Adc, Sbc, Mlc, Dvc, Mdc, Adi, Sbi, Mli, Dvi, Mdi, Ngi, Abi, Uni, Dif, Its, Sym, Sin, Spn, Icl, Ecl, Sle, Not, Equ, Neq, Lsc, Lec, Lsi, Lei, Sav, Rst, Mrk, Psh, Psm, Cll, Ent, Rtn, Jmp, Jpf, Jan, Jor, Cas, Fri, Frn, Trp, Alc, Svc}
 use Rattle.lil_asm.specs.{Bytes.{word_at, decoded}, Requests.request_words, Stretches.stretch}
 
 -- Where the variables of a module lie in its data frame, by their numbers; the shapes that names reach, and the words of the frame that
@@ -396,6 +396,97 @@ pub record TakenRow (l : Layout) (code : List ℕ) (d : Designator) (k : Kind) (
   pub here : place p found
   pub load : IsAt code found (load_code (access_of l d)) q
 
+-- how many words a string takes, at least one
+abbrev pub text_words : List ℕ → ℕ
+text_words cs = max 1 (length cs)
+
+-- A string's words lie from an offset on in the data, one a character; those of an empty one have one 0.
+pub record HasText (l : Layout) (cs : List ℕ) (offset : ℕ) : Type 0 where
+  pub text : is_text cs ≡ true
+  pub at : ℕ
+  pub is : offset ≡ l.words + at
+  pub inside : at + text_words cs ≤ length l.strings
+  pub words : (i : ℕ) → i < text_words cs → get_or l.strings (at + i) 0 ≡ get_or cs i 0
+
+-- an expression of a kind whose value is here, with n words of others below its own
+pub record AloneRow (n : ℕ) (e : Expression) (k : Kind) (its : Span) (p q : ℕ) : Type 0 where
+  pub typed : kind_of e ≡ k
+  pub shallow : n + depth e ≤ 16
+  pub value : its p q
+
+-- a value that may be stored at a place of a kind, and its test
+pub record TestedRow (code : List ℕ) (n : ℕ) (e : Expression) (k : Kind) (its : Span) (p q : ℕ) : Type 0 where
+  pub middle : ℕ
+  pub stores : stores_value k (kind_of e) ≡ true
+  pub value : AloneRow n e (kind_of e) its p middle
+  pub test : InstrsAt code (test_code k (kind_of e)) middle q
+
+-- the address of a place, with n words of others below
+pub record AddressRow (l : Layout) (code : List ℕ) (n : ℕ) (d : Designator) (place : Span) (p q : ℕ) : Type 0 where
+  pub found : ℕ
+  pub there : is_there (shape_of l.scope d) ≡ true
+  pub shallow : n + place_depth d ≤ 16
+  pub here : place p found
+  pub address : InstrsAt code (address_code (access_of l d)) found q
+
+-- an array for an open array of characters, with n words of others below: its address, and the number of its last element
+pub record ArrayRow (l : Layout) (code : List ℕ) (n : ℕ) (d : Designator) (high : ℕ) (place : Span) (p q : ℕ) : Type 0 where
+  pub found : ℕ
+  pub start : ℕ
+  pub rows : shape_of l.scope d ≡ Row (suc high) (Word OfCharacter)
+  pub shallow : n + place_depth d ≤ 16
+  pub room : n + 2 ≤ 16
+  pub here : place p found
+  pub address : InstrsAt code (address_code (access_of l d)) found start
+  pub by : IsAt code start (Liw high) q
+
+-- the same of a string
+pub record StringRow (l : Layout) (code : List ℕ) (n : ℕ) (cs : List ℕ) (p q : ℕ) : Type 0 where
+  pub offset : ℕ
+  pub start : ℕ
+  pub room : n + 2 ≤ 16
+  pub text : HasText l cs offset
+  pub address : IsAt code p (Lag offset) start
+  pub by : IsAt code start (Liw (text_words cs - 1)) q
+
+pub record ArgumentRow (argument rest : Span) (p q : ℕ) : Type 0 where
+  pub middle : ℕ
+  pub here : argument p middle
+  pub then : rest middle q
+
+-- what brings an argument from the expression stack to the frame that a call begins: its word, or all that lies at its address
+abbrev pub push_code : Scope → Argument → Instr
+push_code ts (OfAll d) = Psm (words (shape_of ts d))
+push_code ts a = Psh
+
+pub record PushedRow (l : Layout) (code : List ℕ) (a : Argument) (argument : Span) (p q : ℕ) : Type 0 where
+  pub middle : ℕ
+  pub here : argument p middle
+  pub push : IsAt code middle (push_code l.scope a) q
+
+-- how many words arguments take there
+abbrev pub given_words : Scope → Arguments → ℕ
+given_words ts given = all_words (parameters_given ts given)
+
+-- a mark, the arguments, and a call of what returns nothing, or a value of a kind
+pub record CallRow (l : Layout) (code : List ℕ) (x n : ℕ) (result : Option Kind) (given : Arguments) (pushes : Span) (p q : ℕ) : Type 0 where
+  pub may : MayCall l.scope x n
+  pub returns : result_of (procedure_by l.scope.procedures x) ≡ result
+  pub takes : parameters_of (procedure_by l.scope.procedures x) ≡ parameters_given l.scope given
+  pub start : ℕ
+  pub middle : ℕ
+  pub mark : IsAt code p (Mrk n) start
+  pub arguments : pushes start middle
+  pub call : IsAt code middle (Cll x (framed (given_words l.scope given))) q
+
+-- a call of a function: what stands on the expression stack is saved before, and is there again below the value
+pub record InvokeRow (l : Layout) (code : List ℕ) (x n : ℕ) (k : Kind) (given : Arguments) (pushes : Span) (p q : ℕ) : Type 0 where
+  pub saved : ℕ
+  pub end : ℕ
+  pub save : IsAt code p Sav saved
+  pub call : CallRow l code x n (Some k) given pushes saved end
+  pub restore : IsAt code end (Rst 1) q
+
 abbrev mutual
   pub PlaceAt : Layout → List ℕ → Designator → Span
   PlaceAt l code (Variable v) p q = NamedRow l v p q
@@ -414,19 +505,27 @@ abbrev mutual
   ExpressionAt l code (Apply f a) p q = ApplyRow code f a (ExpressionAt l code a) p q
   ExpressionAt l code (With s k a) p q = WithRow code s k a (ExpressionAt l code s) (ExpressionAt l code a) p q
   ExpressionAt l code (WithSpan s k a b) p q = SpanRow code s k a b (ExpressionAt l code s) (ExpressionAt l code a) (ExpressionAt l code b) p q
+  ExpressionAt l code (Invoke x n k given) p q = InvokeRow l code x n k given (GivenAt l code given) p q
 
--- an expression of a kind, with n words of others below its own
-pub record WholeRow (l : Layout) (code : List ℕ) (n : ℕ) (e : Expression) (k : Kind) (p q : ℕ) : Type 0 where
-  pub typed : kind_of e ≡ k
-  pub shallow : n + depth e ≤ 16
-  pub value : ExpressionAt l code e p q
+  -- an argument, with n words of others below it
+  pub ArgumentAt : Layout → List ℕ → ℕ → Argument → Span
+  ArgumentAt l code n (ByValue k e) p q = TestedRow code n e k (ExpressionAt l code e) p q
+  ArgumentAt l code n (OfPlace d) p q = AddressRow l code n d (PlaceAt l code d) p q
+  ArgumentAt l code n (OfAll d) p q = AddressRow l code n d (PlaceAt l code d) p q
+  ArgumentAt l code n (OfArray d high) p q = ArrayRow l code n d high (PlaceAt l code d) p q
+  ArgumentAt l code n (OfText cs) p q = StringRow l code n cs p q
 
--- a value that may be stored at a place of a kind, and its test
-pub record ValueRow (l : Layout) (code : List ℕ) (n : ℕ) (e : Expression) (k : Kind) (p q : ℕ) : Type 0 where
-  pub middle : ℕ
-  pub stores : stores_value k (kind_of e) ≡ true
-  pub value : WholeRow l code n e (kind_of e) p middle
-  pub test : InstrsAt code (test_code k (kind_of e)) middle q
+  -- the arguments of a call, one behind another
+  pub GivenAt : Layout → List ℕ → Arguments → Span
+  GivenAt l code NoMore p q = p ≡ q
+  GivenAt l code (Also a given) p q = IsSingle a × ArgumentRow (PushedRow l code a (ArgumentAt l code 0 a)) (GivenAt l code given) p q
+
+-- values, each by its code
+abbrev pub WholeRow : Layout → List ℕ → ℕ → Expression → Kind → Span
+WholeRow l code n e k = AloneRow n e k (ExpressionAt l code e)
+
+abbrev pub ValueRow : Layout → List ℕ → ℕ → Expression → Kind → Span
+ValueRow l code n e k = TestedRow code n e k (ExpressionAt l code e)
 
 -- a place of a kind that is made ready for a store
 pub record TargetRow (l : Layout) (code : List ℕ) (d : Designator) (k : Kind) (p q : ℕ) : Type 0 where
@@ -517,18 +616,6 @@ pub record AllocateRow (l : Layout) (code : List ℕ) (back : Bool) (d : Designa
   pub value : ValueRow l code 1 e (OfWhole Cardinal) start middle
   pub by : InstrsAt code (allocate_code back) middle q
 
--- how many words a string takes, at least one
-abbrev pub text_words : List ℕ → ℕ
-text_words cs = max 1 (length cs)
-
--- A string's words lie from an offset on in the data, one a character; those of an empty one have one 0.
-pub record HasText (l : Layout) (cs : List ℕ) (offset : ℕ) : Type 0 where
-  pub text : is_text cs ≡ true
-  pub at : ℕ
-  pub is : offset ≡ l.words + at
-  pub inside : at + text_words cs ≤ length l.strings
-  pub words : (i : ℕ) → i < text_words cs → get_or l.strings (at + i) 0 ≡ get_or cs i 0
-
 -- the addresses of an array and of a string, and the move of the string's words, with zeros behind them to the array's end
 pub record TextRow (l : Layout) (code : List ℕ) (d : Designator) (cs : List ℕ) (p q : ℕ) : Type 0 where
   pub found : ℕ
@@ -545,59 +632,18 @@ pub record TextRow (l : Layout) (code : List ℕ) (d : Designator) (cs : List �
   pub source : IsAt code start (Lag offset) last
   pub by : IsAt code last (Mvz (length cs) (count - length cs)) q
 
--- the address of a place, with n words of others below
-pub record AddressRow (l : Layout) (code : List ℕ) (n : ℕ) (d : Designator) (p q : ℕ) : Type 0 where
-  pub found : ℕ
-  pub there : is_there (shape_of l.scope d) ≡ true
-  pub shallow : n + place_depth d ≤ 16
-  pub here : PlaceAt l code d p found
-  pub address : InstrsAt code (address_code (access_of l d)) found q
+abbrev pub arguments_words : Arguments → ℕ
+arguments_words NoMore = 0
+arguments_words (Also a given) = argument_words a + arguments_words given
 
--- an array for an open array of characters, with n words of others below: its address, and the number of its last element
-pub record ArrayRow (l : Layout) (code : List ℕ) (n : ℕ) (d : Designator) (high p q : ℕ) : Type 0 where
-  pub found : ℕ
-  pub start : ℕ
-  pub rows : shape_of l.scope d ≡ Row (suc high) (Word OfCharacter)
-  pub shallow : n + place_depth d ≤ 16
-  pub room : n + 2 ≤ 16
-  pub here : PlaceAt l code d p found
-  pub address : InstrsAt code (address_code (access_of l d)) found start
-  pub by : IsAt code start (Liw high) q
+-- the arguments of a request, which stay on the expression stack, one behind another
+abbrev pub ArgumentsAt : Layout → List ℕ → ℕ → Arguments → Span
+ArgumentsAt l code n NoMore p q = p ≡ q
+ArgumentsAt l code n (Also a given) p q = ArgumentRow (ArgumentAt l code n a) (ArgumentsAt l code (argument_words a + n) given) p q
 
--- the same of a string
-pub record StringRow (l : Layout) (code : List ℕ) (n : ℕ) (cs : List ℕ) (p q : ℕ) : Type 0 where
-  pub offset : ℕ
-  pub start : ℕ
-  pub room : n + 2 ≤ 16
-  pub text : HasText l cs offset
-  pub address : IsAt code p (Lag offset) start
-  pub by : IsAt code start (Liw (text_words cs - 1)) q
-
-abbrev pub arguments_words : List Argument → ℕ
-arguments_words [] = 0
-arguments_words (a ∷ given) = argument_words a + arguments_words given
-
--- an argument, with n words of others below it
-abbrev pub ArgumentAt : Layout → List ℕ → ℕ → Argument → Span
-ArgumentAt l code n (ByValue k e) p q = ValueRow l code n e k p q
-ArgumentAt l code n (OfPlace d) p q = AddressRow l code n d p q
-ArgumentAt l code n (OfAll d) p q = AddressRow l code n d p q
-ArgumentAt l code n (OfArray d high) p q = ArrayRow l code n d high p q
-ArgumentAt l code n (OfText cs) p q = StringRow l code n cs p q
-
-pub record ArgumentRow (argument rest : Span) (p q : ℕ) : Type 0 where
+pub record RequestRow (l : Layout) (code : List ℕ) (r : request.Request) (given : Arguments) (p q : ℕ) : Type 0 where
   pub middle : ℕ
-  pub here : argument p middle
-  pub then : rest middle q
-
--- arguments one behind another
-abbrev pub ArgumentsAt : Layout → List ℕ → ℕ → List Argument → Span
-ArgumentsAt l code n [] p q = p ≡ q
-ArgumentsAt l code n (a ∷ given) p q = ArgumentRow (ArgumentAt l code n a) (ArgumentsAt l code (argument_words a + n) given) p q
-
-pub record RequestRow (l : Layout) (code : List ℕ) (r : request.Request) (given : List Argument) (p q : ℕ) : Type 0 where
-  pub middle : ℕ
-  pub takes : request_parameters r ≡ map (parameter_of l.scope) given
+  pub takes : request_parameters r ≡ parameters_given l.scope given
   pub served : AreServed given
   pub words : request_words r ≡ arguments_words given
   pub arguments : ArgumentsAt l code 0 given p middle
@@ -702,34 +748,12 @@ pub record CaseRow (l : Layout) (code : List ℕ) (e : Expression) (arms : ℕ �
   pub choice : IsAt code choices (Cas (l.target count) (l.target other)) entries
   pub whole : q ≡ entries + 6 * count
 
--- what brings an argument from the expression stack to the frame that a call begins: its word, or all that lies at its address
-abbrev pub push_code : Scope → Argument → Instr
-push_code ts (OfAll d) = Psm (words (shape_of ts d))
-push_code ts a = Psh
-
-pub record PushedRow (l : Layout) (code : List ℕ) (a : Argument) (p q : ℕ) : Type 0 where
+-- the value that a function returns, with its test, and the return
+pub record AnswerRow (l : Layout) (code : List ℕ) (k : Kind) (e : Expression) (p q : ℕ) : Type 0 where
   pub middle : ℕ
-  pub here : ArgumentAt l code 0 a p middle
-  pub push : IsAt code middle (push_code l.scope a) q
-
--- the arguments of a call, one behind another
-abbrev pub GivenAt : Layout → List ℕ → List Argument → Span
-GivenAt l code [] p q = p ≡ q
-GivenAt l code (a ∷ given) p q = IsSingle a × ArgumentRow (PushedRow l code a) (GivenAt l code given) p q
-
--- how many words they take there
-abbrev pub given_words : Scope → List Argument → ℕ
-given_words ts given = all_words (map (parameter_of ts) given)
-
--- a mark, the arguments, and a call
-pub record CallRow (l : Layout) (code : List ℕ) (x n : ℕ) (given : List Argument) (p q : ℕ) : Type 0 where
-  pub may : MayCall l.scope x n
-  pub takes : parameters_of (procedure_by l.scope.procedures x) ≡ map (parameter_of l.scope) given
-  pub start : ℕ
-  pub middle : ℕ
-  pub mark : IsAt code p (Mrk n) start
-  pub arguments : GivenAt l code given start middle
-  pub call : IsAt code middle (Cll x (framed (given_words l.scope given))) q
+  pub result : result_here l.scope ≡ Some k
+  pub value : ValueRow l code 0 e k p middle
+  pub leave : IsAt code middle Rtn q
 
 -- the first word of a FOR or a WITH in the frame, where the variables and those around it take n words
 abbrev pub loop_place : ℕ → ℕ
@@ -830,8 +854,9 @@ abbrev mutual
   StatementAt l code n exit (Loop body) p q = LoopRow l code (BodyAt l code n (Some (l.target q)) body) p q
   StatementAt l code n exit Exit p q = ExitRow code exit p q
   StatementAt l code n exit Halt p q = IsAt code p (Trp 9) q
-  StatementAt l code n exit Return p q = IsAt code p Rtn q
-  StatementAt l code n exit (Call x i given) p q = CallRow l code x i given p q
+  StatementAt l code n exit Return p q = (result_here l.scope ≡ None) × IsAt code p Rtn q
+  StatementAt l code n exit (Answer k e) p q = AnswerRow l code k e p q
+  StatementAt l code n exit (Call x i given) p q = CallRow l code x i None given (GivenAt l code given) p q
   StatementAt l code n exit (For v k a b step body) p q = ForRow l code n v k a b step (BodyAt l code (3 + n) exit body) p q
   StatementAt l code n exit (Inside d body) p q = InsideRow l code n d (BodyAt (holding l (shape_of l.scope d) (framed (loop_place n))) code (suc n) exit body) p q
 
@@ -845,28 +870,33 @@ abbrev mutual
   ArmsAt l code n exit k (Else body) leave other table p t w = ElseRow l code leave other table (BodyAt l code n exit body) p w
   ArmsAt l code n exit k (Arm labels body rest) leave other table p t w = ArmRow l code k leave labels (BodyAt l code n exit body) (ArmsAt l code n exit k rest leave other table) p t w
 
--- a body or a procedure with these variables: its frame, its statements, and the return
-pub record FramedRow (l : Layout) (code : List ℕ) (locals : List Shape) (ss : Statements) (p q : ℕ) : Type 0 where
+-- how a body or a procedure is left at its end: a function has no value there
+abbrev pub leave_code : Option Kind → Instr
+leave_code None = Rtn
+leave_code (Some k) = Trp 8
+
+-- a body or a procedure with these variables: its frame, its statements, and its end
+pub record FramedRow (l : Layout) (code : List ℕ) (result : Option Kind) (locals : List Shape) (ss : Statements) (p q : ℕ) : Type 0 where
   pub start : ℕ
   pub end : ℕ
   pub enter : IsAt code p (Ent (framed (frame_words locals ss))) start
   pub body : BodyAt l code (all_words locals) None ss start end
-  pub leave : IsAt code end Rtn q
+  pub leave : IsAt code end (leave_code result) q
 
 -- it stands by itself: nothing before or behind it is one of its instructions
-abbrev pub StretchRow : Layout → List ℕ → List Shape → Statements → Span
-StretchRow l code locals ss p q = FramedRow l (stretch p q code) locals ss p q
+abbrev pub StretchRow : Layout → List ℕ → Option Kind → List Shape → Statements → Span
+StretchRow l code result locals ss p q = FramedRow l (stretch p q code) result locals ss p q
 
 -- procedures from this number on, one behind another, and where each begins
 abbrev pub ProceduresAt : Layout → List ℕ → ℕ → List Procedure → List ℕ → Span
 ProceduresAt l code n [] [] p q = p ≡ q
-ProceduresAt l code n (its ∷ ps) (e ∷ es) p q = (e ≡ l.target p) × ThenRow (StretchRow (in_procedure l n its) code its.locals its.body) (ProceduresAt l code (suc n) ps es) p q
+ProceduresAt l code n (its ∷ ps) (e ∷ es) p q = (e ≡ l.target p) × ThenRow (StretchRow (in_procedure l n its) code its.result its.locals its.body) (ProceduresAt l code (suc n) ps es) p q
 ProceduresAt l code n _ _ p q = ⊥
 
 -- code of a program module: its body, and behind it the procedures, by where each begins
 pub record TranslatesBy (l : Layout) (m : Resolved) (entries code : List ℕ) : Type 0 where
   pub middle : ℕ
-  pub body : StretchRow l code [] m.body 0 middle
+  pub body : StretchRow l code None [] m.body 0 middle
   pub procedures : ProceduresAt l code 1 m.procedures entries middle (length code)
 
 -- the strings and the code of a program module, whose numbers are written as they are

@@ -4,20 +4,38 @@ use lil_mcode::{Event, Machine};
 use lil_volume::RamSink;
 use std::alloc::Global;
 
-// A machine at the body of a module with this code and so many data words.
-pub(crate) fn begun(alloc: Global, code: &[u8], data_words: u8) -> Result<Machine, Memory> {
+// A machine at the body of a module with this code, so many data words, and one procedure at this entry, or none.
+pub(crate) fn begun_with(
+    alloc: Global,
+    code: &[u8],
+    entry: Option<u16>,
+    data_words: u8,
+) -> Result<Machine, Memory> {
     if code.is_empty() || code.len() > 32_767 {
         return Err(Memory);
     }
+    let procedures = match entry {
+        None => vec![in alloc; (0u16, None)]?,
+        Some(place) => {
+            if usize::from(place) >= code.len() {
+                return Err(Memory);
+            }
+            vec![in alloc; (0u16, None), (place, None)]?
+        }
+    };
     let mut machine = Machine::new(alloc)?;
     let name = Name::of_slice(alloc, b"Main")?.ok_or(Memory)?;
     let code = Bytes::from_slice(alloc, code)?;
-    let procedures = vec![in alloc; (0u16, None)]?;
     let bodies = vec![in alloc; 1u8]?;
     machine.open_level();
     machine.add_module(name, procedures, &code, u16::from(data_words));
     machine.begin(bodies);
     Ok(machine)
+}
+
+// The same without a procedure.
+pub(crate) fn begun(alloc: Global, code: &[u8], data_words: u8) -> Result<Machine, Memory> {
+    begun_with(alloc, code, None, data_words)
 }
 
 #[test]

@@ -1,6 +1,6 @@
-//! What docs/TOUR.md shows of Tour.MOD and Heap.MOD, layer by layer: tokens, code, and the machine step by step. What the
-//! meaning does in each step is proved in lil_meaning, and the screen of both is looked at by the gate.
-use crate::mcode::{begun, served};
+//! What docs/TOUR.md shows of Tour.MOD, Heap.MOD and Call.MOD, layer by layer: tokens, code, and the machine step by step. What the
+//! meaning does in each step is proved in lil_meaning, and the screen of all is looked at by the gate.
+use crate::mcode::{begun, begun_with, served};
 use lil_base::{Bytes, Memory, Name, Request, Text, same_bytes};
 use lil_check_unit::check_program;
 use lil_lexer::tokens;
@@ -19,6 +19,10 @@ const TOUR: &[u8] =
 /// The text of examples/Heap.MOD.
 const HEAP: &[u8] =
     b"MODULE Heap; TYPE P = POINTER TO R; R = RECORD key: CARDINAL; next: P END;\nVAR a: ARRAY [0..2] OF R; i: CARDINAL;\nBEGIN i := 1; NEW(a[i].next);\n  a[i].next^.key := 1\nEND Heap.\n";
+
+/// The text of examples/Call.MOD.
+const CALL: &[u8] =
+    b"MODULE Call; FROM Terminal IMPORT Write; VAR c: CARDINAL;\nPROCEDURE Next(n: CARDINAL): CARDINAL;\nBEGIN RETURN n + 1 END Next;\nBEGIN c := 60; Write(CHR(c + Next(4))) END Call.\n";
 
 /// What a token is.
 #[derive(Clone, Copy)]
@@ -109,7 +113,31 @@ const HEAP_CODE: &[u8] = &[
     0x31, // STI
 ];
 
-/// The code of sections 7 and 11.
+/// The code of Call.MOD: the column of bytes in section 12, by the places.
+const CALL_CODE: &[u8] = &[
+    0x68, 0x00, 0x04, // ENT 4
+    0x01, 0x00, 0x3c, // LIW 60
+    0x26, 0x00, 0x00, // SGW 0
+    0x24, 0x00, 0x00, // LGW 0
+    0x60, // SAV
+    0x61, 0x00, // MRK 0
+    0x01, 0x00, 0x04, // LIW 4
+    0x63, // PSH
+    0x65, 0x01, 0x00, 0x01, // CLL 1 1
+    0x6b, 0x01, // RST 1
+    0x40, // ADC
+    0x39, 0x00, 0x00, 0x00, 0xff, // RGC 0 255
+    0x7d, 0x02, // SVC 2
+    0x6a, // RTN
+    0x68, 0x00, 0x05, // ENT 5
+    0x20, 0x00, 0x04, // LLW 4
+    0x01, 0x00, 0x01, // LIW 1
+    0x40, // ADC
+    0x6a, // RTN
+    0x79, 0x08, // TRP 8
+];
+
+/// The code of sections 7, 11 and 12.
 #[test]
 fn tour_code(rt: HostRuntime) -> Result<(), Fail> {
     let alloc = rt.alloc();
@@ -119,6 +147,8 @@ fn tour_code(rt: HostRuntime) -> Result<(), Fail> {
     assert_eq!(rt; heap.code.len(), 60);
     let part = heap.code.as_slice().get(32..59).ok_or("no part")?;
     assert!(rt; part == HEAP_CODE);
+    let call = code_of(alloc, b"Call", CALL)?;
+    assert!(rt; call.code.as_slice() == CALL_CODE && call.entries.as_slice() == [34u16].as_slice());
     Ok(())
 }
 
@@ -218,5 +248,42 @@ fn tour_heap(rt: HostRuntime) -> Result<(), Fail> {
     let (event, done) = machine.run(100);
     assert!(rt; event == Event::LevelEnded && done == 20);
     assert!(rt; machine.word(4) == 65533 && machine.word(65533) == 1);
+    Ok(())
+}
+
+/// The steps of the machine with the code of Call.MOD: the place of each instruction, and the words 6 to 12 after it.
+const CALL_STEPS: &[(u16, [u16; 7])] = &[
+    (0, [0, 0, 0, 0, 0, 0, 0]),
+    (3, [0, 0, 0, 0, 0, 0, 0]),
+    (6, [0, 0, 0, 0, 0, 0, 0]),
+    (9, [0, 0, 0, 0, 0, 0, 0]),
+    (12, [60, 1, 0, 0, 0, 0, 0]),
+    (13, [60, 1, 0, 0, 0, 0, 0]),
+    (15, [60, 1, 0, 0, 0, 0, 0]),
+    (18, [60, 1, 0, 0, 0, 0, 4]),
+    (19, [60, 1, 0, 2, 23, 1, 4]),
+    (34, [60, 1, 0, 2, 23, 1, 4]),
+    (37, [60, 1, 0, 2, 23, 1, 4]),
+    (40, [60, 1, 0, 2, 23, 1, 4]),
+    (43, [60, 1, 0, 2, 23, 1, 4]),
+    (44, [60, 1, 0, 2, 23, 1, 4]),
+    (23, [60, 1, 0, 2, 23, 1, 4]),
+    (25, [60, 1, 0, 2, 23, 1, 4]),
+    (26, [60, 1, 0, 2, 23, 1, 4]),
+    (31, [60, 1, 0, 2, 23, 1, 4]),
+    (33, [60, 1, 0, 2, 23, 1, 4]),
+];
+
+/// The places and the words of section 12.
+#[test]
+fn tour_call(rt: HostRuntime) -> Result<(), Fail> {
+    let mut machine = begun_with(rt.alloc(), CALL_CODE, Some(34), 1)?;
+    for (place, words) in CALL_STEPS {
+        machine.step();
+        assert_eq!(rt; machine.place().place, *place);
+        for (above, word) in words.iter().enumerate() {
+            assert_eq!(rt; machine.word(6 + above as u16), *word);
+        }
+    }
     Ok(())
 }

@@ -2,9 +2,9 @@
 use Rattle.std.proofs.Common.{false, ◌≡◌, ℕ, zero, suc, ◌+◌, ◌%◌, ◌<◌, ◌≤◌, List, [], ◌∷◌, ◌++◌, length, take, get_or, Option, Some, None, refl, sym, ap, ◌∙◌, subst, arith, append-nil, append_assoc}
 use Rattle.std.specs.{Prelude.{slice_get, map}, Option.option_map, List.All}
 use Rattle.std.proofs.lemmas.{Option.{none-some, same_Some, slice_get-map, slice_get_within}, List.{length-map, length-take-le, get_or-map, map_more}, Simd.map-map}
-use Rattle.lil_resolved.specs.{declared.{resolved.{RModule.RModule, RHeading.RHeading, RProcedure.RProcedure, RDeclared.RDeclared}, shapes.RShape.RShape}, Kinds.{Shape, words, all_words, offsets_from}, Resolved.{Statements, Procedure, Resolved, outline_of, scope_in}, Sizes.{body_words, body_strings, procedures_strings, module_strings, code_size, frame_words}, Views.{offset_of, shape_declared, statements_of, locals_of, heading_of, procedure_of, module_of, IsMeasured, IsMeasuredHeading}, Sound.{IsSoundBody, IsSound}}
-use Rattle.lil_asm.specs.{declared.instr.Instr.TheVariants.{Ent, Rtn}, Stretches.{stretch, stretch_long, stretch_short, stretch_has}}
-use Rattle.lil_table.specs.{Rows.{framed, loop_place, IsAt, Layout, StretchRow, ProceduresAt, in_procedure as layout_in, TranslatesBy, Translates, layout_by, exactly, cut}, Lengths.{framed_long, procedures_long, module_long}}
+use Rattle.lil_resolved.specs.{declared.{resolved.{RModule.RModule, RHeading.RHeading, RProcedure.RProcedure, RDeclared.RDeclared}, shapes.RShape.RShape}, Kinds.{Kind, Shape, words, all_words, offsets_from}, Resolved.{Statements, Procedure, Resolved, outline_of, scope_in}, Sizes.{body_words, body_strings, procedures_strings, module_strings, code_size, frame_words}, Views.{kind_view, offset_of, shape_declared, statements_of, locals_of, heading_of, procedure_of, module_of, IsMeasured, IsMeasuredHeading}, Sound.{IsSoundBody, IsSound}}
+use Rattle.lil_asm.specs.{declared.instr.Instr.{Instr, TheVariants.{Ent}}, Stretches.{stretch, stretch_long, stretch_short, stretch_has}}
+use Rattle.lil_table.specs.{Rows.{framed, leave_code, loop_place, IsAt, Layout, StretchRow, ProceduresAt, in_procedure as layout_in, TranslatesBy, Translates, layout_by, exactly, cut}, Lengths.{framed_long, procedures_long, module_long}}
 use Rattle.lil_labels.specs.{Tables.{Tables, Describe, chain_from, chain_of, outline_with}, Drafts.{Draft, empty, in_procedure, Final, Fits, Meaning, Adds, Emits, Doing, code_of, settled_word, word_in}, Settling.written_long, Emitting.{emits_then, emits_as, adds_as}}
 use Rattle.lil_stmt.specs.Generating.{Body}
 use Rattle.lil_unit.specs.Framing.{Framed, tables_in, IsStretch, Apart, EachFramed, AllFramed}
@@ -22,20 +22,20 @@ lies_within ts (w ∷ vs) first (suc x) v h e =
     omega (arith, lies_within ts vs (first + words (shape_declared ts w)) x v rest e)
 
 -- ---- one behind another
-pub is_framed : (ss : Statements) (cut words : ℕ) (a b c d : Draft) → words ≡ framed (loop_place cut + body_words ss) → Emits a b (Doing (λ w. Ent words)) → Adds (body_strings ss) b c (Body cut None ss) → Emits c d (Doing (λ w. Rtn))
-    → (locals : List Shape) → cut ≡ framed (all_words locals) → Adds (body_strings ss) a d (Framed locals ss)
-is_framed ss cut words a b c d is enter body leave locals taken =
+pub is_framed : (result : Option Kind) (leave : Instr) (ss : Statements) (cut words : ℕ) (a b c d : Draft) → leave ≡ leave_code result → words ≡ framed (loop_place cut + body_words ss) → Emits a b (Doing (λ w. Ent words)) → Adds (body_strings ss) b c (Body cut None ss) → Emits c d (Doing (λ w. leave))
+    → (locals : List Shape) → cut ≡ framed (all_words locals) → Adds (body_strings ss) a d (Framed result locals ss)
+is_framed result leave ss cut words a b c d end is enter body left locals taken =
     let whole : words ≡ framed (frame_words locals ss) = omega (arith, is, taken) in
-    adds_as a d (Framed locals ss) (append-nil (body_strings ss))
-    (emits_as a d _ (Framed locals ss)
+    adds_as a d (Framed result locals ss) (append-nil (body_strings ss))
+    (emits_as a d _ (Framed result locals ss)
     (λ x t. record {
       start = length b.bytes;
       end = length c.bytes;
       enter = subst (λ (w : ℕ). IsAt x.code (length a.bytes) (Ent w) (length b.bytes)) whole t.0;
       body = subst (λ (n : ℕ). Body n None ss x (length b.bytes) (length c.bytes)) taken t.1.0;
-      leave = t.1.1;
+      leave = subst (λ (i : Instr). IsAt x.code (length c.bytes) i (length d.bytes)) end t.1.1;
     })
-    (emits_then a b d _ _ enter (emits_then b c d _ _ body leave)))
+    (emits_then a b d _ _ enter (emits_then b c d _ _ body left)))
 
 -- the same final code in a procedure, or in the body
 abbrev entered : Option ℕ → Final → Final
@@ -102,10 +102,10 @@ apart own a b T t =
     }
 
 -- one procedure more
-each_one : (i j : ℕ) (ps : List Procedure) (es : List ℕ) (its : Procedure) (x : Final) (p m q : ℕ) → j ≡ i + length ps → EachFramed i ps es x p m → Apart (Some j) (Framed its.locals its.body) x m q → EachFramed i (ps ++ its ∷ []) (es ++ m % 65536 ∷ []) x p q
+each_one : (i j : ℕ) (ps : List Procedure) (es : List ℕ) (its : Procedure) (x : Final) (p m q : ℕ) → j ≡ i + length ps → EachFramed i ps es x p m → Apart (Some j) (Framed its.result its.locals its.body) x m q → EachFramed i (ps ++ its ∷ []) (es ++ m % 65536 ∷ []) x p q
 each_one i j [] [] its x p m q last h t =
     let first : j ≡ i = omega arith in
-    subst (λ (n : ℕ). EachFramed i (its ∷ []) (m % 65536 ∷ []) x n q) (sym h) (q, refl, subst (λ (k : ℕ). Apart (Some k) (Framed its.locals its.body) x m q) first t, refl)
+    subst (λ (n : ℕ). EachFramed i (its ∷ []) (m % 65536 ∷ []) x n q) (sym h) (q, refl, subst (λ (k : ℕ). Apart (Some k) (Framed its.result its.locals its.body) x m q) first t, refl)
 each_one i j (a ∷ ps) (e ∷ es) its x p m q last h t = (h.0, h.1, h.2, each_one (suc i) j ps es its x h.0 m q (omega arith) h.3 t)
 each_one i j [] (e ∷ es) its x p m q last h t = absurd h
 each_one i j (a ∷ ps) [] its x p m q last h t = absurd h
@@ -117,7 +117,7 @@ strings_one (a ∷ ps) its = append_assoc (body_strings a.body) (procedures_stri
 -- the procedure with this number behind those before it
 pub procedure_more : (rs : List RProcedure) (i : ℕ) (r : RProcedure) (es more : List ℕ) (a b c : Draft) → All (IsMeasuredHeading a.tables.shapes) (map heading_of rs) → i < length rs → r ≡ get_or rs i r → more ≡ es ++ length b.bytes % 65536 ∷ []
     → Adds (procedures_strings (map (procedure_of a.tables.shapes) (take i rs))) a (in_procedure a.tables.own b) (EachFramed 0 (map (procedure_of a.tables.shapes) (take i rs)) es)
-    → ((locals : List Shape) → r.heading.words ≡ framed (all_words locals) → Adds (body_strings (statements_of r.body)) (in_procedure (Some i) b) c (Framed locals (statements_of r.body)))
+    → ((locals : List Shape) → r.heading.words ≡ framed (all_words locals) → Adds (body_strings (statements_of r.body)) (in_procedure (Some i) b) c (Framed (option_map kind_view r.heading.result) locals (statements_of r.body)))
     → Adds (procedures_strings (map (procedure_of a.tables.shapes) (take (i + 1) rs))) a (in_procedure a.tables.own c) (EachFramed 0 (map (procedure_of a.tables.shapes) (take (i + 1) rs)) more)
 procedure_more rs i r es more a b c measured inside is entry so_far here =
     let of = procedure_of a.tables.shapes in
@@ -133,7 +133,7 @@ procedure_more rs i r es more a b c measured inside is entry so_far here =
     (λ x t. each_one 0 i ps es (of r) x (length a.bytes) (length b.bytes) (length c.bytes) last t.0 t.1)
     (emits_then a (in_procedure a.tables.own b) d _ _ so_far (apart (Some i) (in_procedure a.tables.own b) c _ (here (locals_of a.tables.shapes r.heading) known.words))))))
 
-pub all_framed : (m : Resolved) (entries : List ℕ) (a b c : Draft) → Adds (body_strings m.body) (in_procedure None a) b (Framed [] m.body) → Adds (procedures_strings m.procedures) b (in_procedure b.tables.own c) (EachFramed 0 m.procedures entries)
+pub all_framed : (m : Resolved) (entries : List ℕ) (a b c : Draft) → Adds (body_strings m.body) (in_procedure None a) b (Framed None [] m.body) → Adds (procedures_strings m.procedures) b (in_procedure b.tables.own c) (EachFramed 0 m.procedures entries)
     → Adds (module_strings m) (in_procedure None a) (in_procedure None c) (AllFramed m entries)
 all_framed m entries a b c body procedures =
     let same : b ≡ in_procedure None b = ap (λ (ts : Tables). record b { tables = ts }) body.same ∙ sym (ap (λ (ts : Tables). record b { tables = tables_in None ts }) body.same) in
@@ -213,10 +213,10 @@ module _ (r : RModule) (entries : List ℕ) (d : Draft) (sound : IsSound (module
     x : Final
     x = settled target None [] [] m.body refl cuts 0 code (omega arith)
 
-    framed_at : (own : Option ℕ) (chain : List ℕ) (locals : List Shape) (ss : Statements) (p q : ℕ) → chain ≡ chain_of headings own → IsSoundBody (scope_in m chain) false ss → Apart own (Framed locals ss) x p q
-        → StretchRow (laid target chain locals ss) code locals ss p q
+    framed_at : (own : Option ℕ) (chain : List ℕ) (result : Option Kind) (locals : List Shape) (ss : Statements) (p q : ℕ) → chain ≡ chain_of headings own → IsSoundBody (scope_in m chain) false ss → Apart own (Framed result locals ss) x p q
+        → StretchRow (laid target chain locals ss) code result locals ss p q
     unfolding settled x
-    framed_at own chain locals ss p q is right t =
+    framed_at own chain result locals ss p q is right t =
         let f = t (settled target own chain locals ss is cuts p (stretch p q code) (stretch_short p q code)) (record { tables = refl; strings = refl; target = refl; word = refl; from = refl; code = refl }) in
         record { start = f.start; end = f.end; enter = f.enter; body = f.body (all_words locals) refl right (omega arith); leave = f.leave }
 
@@ -227,9 +227,9 @@ module _ (r : RModule) (entries : List ℕ) (d : Draft) (sound : IsSound (module
         let l = layout_by target d.strings m in
         let first : i + 0 ≡ i = omega arith in
         let at = subst (λ (j : ℕ). slice_get m.procedures j ≡ Some its) first (those 0 its refl) in
-        let here = framed_at (Some i) (suc i ∷ its.around) its.locals its.body p h.0 (chain_is i its at) (sound.procedures (suc i) its at) h.2 in
+        let here = framed_at (Some i) (suc i ∷ its.around) its.result its.locals its.body p h.0 (chain_is i its at) (sound.procedures (suc i) its at) h.2 in
         let then = procedures_at (suc i) ps es h.0 q inside (λ k a is. let next : i + suc k ≡ suc i + k = omega arith in subst (λ (j : ℕ). slice_get m.procedures j ≡ Some a) next (those (suc k) a is)) h.3 in
-        let before : p ≤ length code = omega (arith, inside, framed_long (layout_in l (suc i) its) (stretch p h.0 code) its.locals its.body p h.0 here, procedures_long l code (suc (suc i)) ps es h.0 q then) in
+        let before : p ≤ length code = omega (arith, inside, framed_long (layout_in l (suc i) its) (stretch p h.0 code) its.result its.locals its.body p h.0 here, procedures_long l code (suc (suc i)) ps es h.0 q then) in
         (h.1 ∙ sym (cuts p before), record { middle = h.0; here = here; then = then })
     procedures_at i [] (e ∷ es) p q inside those h = absurd h
     procedures_at i (its ∷ ps) [] p q inside those h = absurd h
@@ -242,7 +242,7 @@ module _ (r : RModule) (entries : List ℕ) (d : Draft) (sound : IsSound (module
         let t = emitted.meant x begins (omega arith) in
         record {
           middle = t.0;
-          body = framed_at None [] [] m.body 0 t.0 refl sound.body t.1;
+          body = framed_at None [] None [] m.body 0 t.0 refl sound.body t.1;
           procedures = subst (λ (q : ℕ). ProceduresAt (layout_by target d.strings m) code 1 m.procedures entries t.0 q) (sym long) (procedures_at 0 m.procedures entries t.0 _ (omega (arith, long)) (λ k its at. let same : k ≡ 0 + k = omega arith in subst (λ (j : ℕ). slice_get m.procedures j ≡ Some its) same at) t.2);
         }
 

@@ -1,9 +1,10 @@
-//! The code of a program module: its body, and behind it its procedures, each with its frame, its statements and the return.
+//! The code of a program module: its body, and behind it its procedures, each with its frame, its statements and its end.
 
-ghost use Rattle.std.specs.{Prelude.{◌≡◌, ◌+◌, ◌<◌, ◌≤◌, ℕ, List, length, map, min, None, IfOk, OnOk, Err}, List.All};
-ghost use Rattle.lil_resolved.specs.{Kinds.{Shape, all_words}, Views.{IsMeasured, IsMeasuredHeading, statements_of, heading_of, procedure_of, module_of}, Sound.IsSound, Sizes.{body_strings, procedures_strings, module_strings}};
+ghost use Rattle.std.specs.{Prelude.{◌≡◌, ◌+◌, ◌<◌, ◌≤◌, ℕ, List, length, map, min, None, IfOk, OnOk, Err}, List.All, Option.option_map};
+ghost use Rattle.lil_resolved.specs.{Kinds.{Shape, all_words}, Views.{kind_view, IsMeasured, IsMeasuredHeading, statements_of, heading_of, procedure_of, module_of}, Sound.IsSound, Sizes.{body_strings, procedures_strings, module_strings}};
 ghost use Rattle.lil_resolved.specs.Sizes as spec;
-ghost use Rattle.lil_table.specs.Rows.{framed, Translates};
+ghost use Rattle.lil_asm.specs.Bytes.{Sayable};
+ghost use Rattle.lil_table.specs.Rows.{framed, leave_code, Translates};
 ghost use Rattle.lil_labels.specs.Drafts.{Adds, empty, in_procedure};
 ghost use Rattle.lil_unit.specs.Framing.{Framed, EachFramed, AllFramed};
 
@@ -11,7 +12,7 @@ use crate::GenStop;
 use lil_asm::Instr;
 use lil_base::{Bytes, Items, Memory};
 use lil_labels::CodeBuffer;
-use lil_resolved::{RModule, RProcedure, RStmt};
+use lil_resolved::{RKind, RModule, RProcedure, RStmt};
 use lil_stmt::{Around, emit_body, frame_words};
 use std::alloc::Global;
 
@@ -34,10 +35,26 @@ fn counted(bytes: usize) -> u32
     u32::try_from(bytes).unwrap_or(u32::MAX)
 }
 
+/// The instruction at the end of a body or a procedure: the return, or a trap where a value of a kind should be returned.
+fn leave_instr(kind: Option<RKind>) -> Instr
+    ensures is { result ≡ leave_code (option_map kind_view kind) }
+    ensures sayable { Sayable result }
+{
+    match kind {
+        None => Instr::Rtn,
+        Some(_) => Instr::Trp(8),
+    }
+}
+
 /// Appends statements whose variables take so many words of the frame, with the instructions that enter and leave them: the
-/// words of the frame, and the return.
-fn emit_framed(code: &mut CodeBuffer<'_>, locals_words: u16, body: &[RStmt]) -> Result<(), Memory>
-    ensures { OnOk result ((locals : List Shape) → locals_words ≡ framed (all_words locals) → Adds (body_strings (statements_of body.now)) code.old code.new (Framed locals (statements_of body.now))) }
+/// words of the frame, and the end of what returns nothing, or a value of a kind.
+fn emit_framed(
+    code: &mut CodeBuffer<'_>,
+    locals_words: u16,
+    kind: Option<RKind>,
+    body: &[RStmt],
+) -> Result<(), Memory>
+    ensures { OnOk result ((locals : List Shape) → locals_words ≡ framed (all_words locals) → Adds (body_strings (statements_of body.now)) code.old code.new (Framed (option_map kind_view kind) locals (statements_of body.now))) }
 {
     let around = Around {
         words: locals_words,
@@ -45,7 +62,7 @@ fn emit_framed(code: &mut CodeBuffer<'_>, locals_words: u16, body: &[RStmt]) -> 
     };
     code.put(Instr::Ent(frame_words(locals_words, body)))?;
     emit_body(code, body, around)?;
-    code.put(Instr::Rtn)?;
+    code.put(leave_instr(kind))?;
     Ok(())
 }
 
@@ -61,7 +78,13 @@ fn emit_procedures(
     for (i, procedure) in procedures.iter().enumerate() {
         entries.push((code.len() % 65_536) as u16)?;
         code.enter(Some(i));
-        emit_framed(code, procedure.heading.words, procedure.body.as_slice())?;
+        let heading = &procedure.heading;
+        emit_framed(
+            code,
+            heading.words,
+            heading.result,
+            procedure.body.as_slice(),
+        )?;
     }
     Ok(entries)
 }
@@ -86,7 +109,7 @@ fn emit_module<'m>(alloc: Global, m: &'m RModule) -> Result<Drafted<'m>, Memory>
         m.words,
         m.procedures.as_slice(),
     );
-    emit_framed(&mut code, 0, m.body.as_slice())?;
+    emit_framed(&mut code, 0, None, m.body.as_slice())?;
     let entries = emit_procedures(&mut code, m.procedures.as_slice())?;
     Ok(Drafted { code, entries })
 }

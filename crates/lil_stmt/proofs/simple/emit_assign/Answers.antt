@@ -7,5 +7,5 @@ use Rattle.lil_stmt.proofs.simple.emit_assign.Goals as goal
 pub returns : goal.returns
 returns c =
     with_ok c.emit_store.result
-    (λ h n exit. assign_emitted (place_of c.args.place.now) (kind_view c.args.kind) (expression_of c.args.value.now) (access_view c.in_ok-target.target) n exit _ _ _ _ c.in_ok-target.ensures c.in_ok-emit_value.ensures h)
+    (λ h n exit. assign_emitted (place_of c.args.place.now) (kind_view c.args.kind) (expression_of c.args.value.now) (access_view c.in_ok-target.target) n exit _ _ _ _ c.in_ok-target.ensures c.in_ok-emit_tested.ensures.stored h)
     c.emit_store.ensures

@@ -1,6 +1,8 @@
-use Rattle.lil_resolved.specs.Views.{statements_of}
+use Rattle.std.specs.Option.{option_map}
+use Rattle.lil_resolved.specs.Views.{kind_view, statements_of}
 use Rattle.lil_unit.proofs.Modules.{is_framed}
 use Rattle.lil_unit.proofs.code.emit_framed.Goals as goal
 
 pub returns : goal.returns
-returns c = is_framed (statements_of c.args.body.now) c.args.locals_words c.frame_words.result _ _ _ _ c.frame_words.ensures c.in_ok-put.ensures c.in_ok-emit_body.ensures c.in_ok-put-2.ensures
+returns c =
+    is_framed (option_map kind_view c.args.kind) c.leave_instr.result (statements_of c.args.body.now) c.args.locals_words c.frame_words.result _ _ _ _ c.leave_instr.ensures.is c.frame_words.ensures c.in_ok-put.ensures c.in_ok-emit_body.ensures c.in_ok-put-2.ensures

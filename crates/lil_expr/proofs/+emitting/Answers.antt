@@ -1,30 +1,30 @@
 use Rattle.std.proofs.Common.{◌≡◌, List, ap, sym, ◌∙◌, subst, OnOk, Some, None}
 use Rattle.lil_base.specs.Words.{Integer}
-use Rattle.lil_resolved.specs.{Kinds.{Kind, OfWhole}, Resolved.{Expression, kind_of}, Views.{base_view, kind_view, root_view, function_of, expression_of, selector_of, member_of, field_is, index_is, follow_is, one_is, chain_is, apply_is, set_is, single_is, span_is}, declared.resolved.{RExpr.RExpr, ROperation.{ROperation, out-ROperation}, RPlace.out-RPlace}}
+use Rattle.lil_resolved.specs.{Kinds.{Kind, OfWhole}, Resolved.{Expression, kind_of}, Views.{arguments_of, base_view, kind_view, root_view, function_of, expression_of, selector_of, member_of, field_is, index_is, follow_is, one_is, chain_is, apply_is, set_is, single_is, span_is, invoke_is}, declared.resolved.{RArgument.RArgument, RExpr.RExpr, ROperation.{ROperation, out-ROperation}, RPlace.out-RPlace}}
 use Rattle.lil_resolved.specs.declared.resolved.{RSelector.RSelector, RMember.RMember}
 use Rattle.lil_table.specs.Rows.{function_code}
 use Rattle.lil_labels.specs.{Drafts.{DoingAll, Each, Emits}, Emitting.{with_ok, each_next}}
-use Rattle.lil_expr.specs.{Accesses.access_view, Generating.{Value, Joining, Operating, aim_of}}
-use Rattle.lil_expr.proofs.{Forms.{one_emitted, apply_emitted}, Chains.{chain_emitted, short_operation, two_operation}, Sets.{single_joins, span_joins, set_emitted}, Placing.{field_selected, element_selected, follow_selected, next_selector, all_selectors}}
-use Rattle.lil_expr.proofs.expressions.+emitting.Goals as goal
+use Rattle.lil_expr.specs.{Accesses.access_view, Calling.Called, Generating.{Value, Joining, Operating, aim_of}}
+use Rattle.lil_expr.proofs.{Forms.{one_emitted, apply_emitted}, Chains.{chain_emitted, short_operation, two_operation}, Sets.{single_joins, span_joins, set_emitted}, Calling.{word_pushed, given_next, call_emitted, invoke_emitted}, Placing.{field_selected, element_selected, follow_selected, next_selector, all_selectors}}
+use Rattle.lil_expr.proofs.+emitting.Goals as goal
 
-pub emit_expression-returns-in_ok-emit_expression-in-One : goal.emit_expression-returns-in_ok-emit_expression-in-One
-emit_expression-returns-in_ok-emit_expression-in-One t c =
+pub expressions::emit_expression-returns-in_ok-emit_expression-in-One : goal.expressions::emit_expression-returns-in_ok-emit_expression-in-One
+expressions::emit_expression-returns-in_ok-emit_expression-in-One t c =
     let is = ap expression_of c.in-One.is ∙ one_is c.in-One.operator c.in-One.value in
     let value = subst (λ (e : RExpr). Emits c.args.code.now c.emit_expression.new.code (Value (expression_of e))) c.get.ensures c.in_ok-emit_expression-in-One.ensures in
     subst (λ (e : Expression). OnOk c.emit_one.result (Emits c.args.code.now c.emit_one.new.code (Value e))) (sym is)
     (with_ok c.emit_one.result (one_emitted c.in-One.operator (OfWhole Integer) (expression_of c.in-One.value) _ _ _ value) c.emit_one.ensures)
 
-pub emit_expression-returns-in_ok-emit_expression-in-Chain : goal.emit_expression-returns-in_ok-emit_expression-in-Chain
-emit_expression-returns-in_ok-emit_expression-in-Chain t c =
+pub expressions::emit_expression-returns-in_ok-emit_expression-in-Chain : goal.expressions::emit_expression-returns-in_ok-emit_expression-in-Chain
+expressions::emit_expression-returns-in_ok-emit_expression-in-Chain t c =
     let is = ap expression_of c.in-Chain.is ∙ chain_is c.in-Chain.first c.in-Chain.operations in
     let first = subst (λ (e : RExpr). Emits c.args.code.now c.emit_expression-in-Chain.new.code (Value (expression_of e))) c.get-in-Chain.ensures c.in_ok-emit_expression-in-Chain.ensures in
     let rest = subst (λ (os : List ROperation). OnOk c.emit_operations.result (Emits c.emit_expression-in-Chain.new.code c.emit_operations.new.code (Each Operating os))) c.as_slice.ensures c.emit_operations.ensures in
     subst (λ (e : Expression). OnOk c.emit_operations.result (Emits c.args.code.now c.emit_operations.new.code (Value e))) (sym is)
     (with_ok c.emit_operations.result (chain_emitted (expression_of c.in-Chain.first) c.in-Chain.operations _ _ _ first) rest)
 
-pub emit_expression-returns-in_ok-emit_expression-in-Apply : goal.emit_expression-returns-in_ok-emit_expression-in-Apply
-emit_expression-returns-in_ok-emit_expression-in-Apply t c =
+pub expressions::emit_expression-returns-in_ok-emit_expression-in-Apply : goal.expressions::emit_expression-returns-in_ok-emit_expression-in-Apply
+expressions::emit_expression-returns-in_ok-emit_expression-in-Apply t c =
     let is = ap expression_of c.in-Apply.is ∙ apply_is c.in-Apply.function c.in-Apply.value in
     let value = subst (λ (e : RExpr). Emits c.args.code.now c.emit_expression-in-Apply.new.code (Value (expression_of e))) c.get-in-Apply.ensures c.in_ok-emit_expression-in-Apply.ensures in
     let typed : base_view c.base.result ≡ kind_of (expression_of c.in-Apply.value) = c.base.ensures ∙ ap (λ (e : RExpr). kind_of (expression_of e)) c.get-in-Apply-2.ensures in
@@ -32,70 +32,88 @@ emit_expression-returns-in_ok-emit_expression-in-Apply t c =
     subst (λ (e : Expression). OnOk c.emit_function.result (Emits c.args.code.now c.emit_function.new.code (Value e))) (sym is)
     (with_ok c.emit_function.result (apply_emitted (function_of c.in-Apply.function (kind_of (expression_of c.in-Apply.value))) (expression_of c.in-Apply.value) _ _ _ value) by)
 
-pub emit_expression-returns-in_ok-put-in-Set : goal.emit_expression-returns-in_ok-put-in-Set
-emit_expression-returns-in_ok-put-in-Set t c =
+pub expressions::emit_expression-returns-in_ok-put-in-Set : goal.expressions::emit_expression-returns-in_ok-put-in-Set
+expressions::emit_expression-returns-in_ok-put-in-Set t c =
     let k = kind_view c.in-Set.kind in
     let is = ap expression_of c.in-Set.is ∙ set_is c.in-Set.kind c.in-Set.members in
     let rest = subst (λ (ms : List RMember). OnOk c.emit_members.result (Emits c.put-in-Set.new.self c.emit_members.new.code (Each (Joining k) ms))) c.as_slice-in-Set.ensures c.emit_members.ensures in
     subst (λ (e : Expression). OnOk c.emit_members.result (Emits c.args.code.now c.emit_members.new.code (Value e))) (sym is)
     (with_ok c.emit_members.result (set_emitted k c.in-Set.members _ _ _ c.in_ok-put-in-Set.ensures) rest)
 
-pub emit_members-loop-member-preserved : goal.emit_members-loop-member-preserved
-emit_members-loop-member-preserved t c =
+pub expressions::emit_members-loop-member-preserved : goal.expressions::emit_members-loop-member-preserved
+expressions::emit_members-loop-member-preserved t c =
     each_next (Joining (kind_view c.args.kind)) c.args.members.now c.loop-member.member-index c.member-item.result _ _ _ c.loop-member-test.true c.member-item.is c.loop-member.invariant c.in_ok-emit_member.ensures
 
-pub emit_member-returns-in_ok-emit_tested-in-Single : goal.emit_member-returns-in_ok-emit_tested-in-Single
-emit_member-returns-in_ok-emit_tested-in-Single t c =
+pub expressions::emit_member-returns-in_ok-emit_tested-in-Single : goal.expressions::emit_member-returns-in_ok-emit_tested-in-Single
+expressions::emit_member-returns-in_ok-emit_tested-in-Single t c =
     let k = kind_view c.args.kind in
     with_ok c.put_all.result
-    (single_joins c.args.member.now k (expression_of c.in-Single.value) _ _ _ (λ s. ap (λ (m : RMember). member_of m k s) c.in-Single.is ∙ ap (λ (f : Kind → Expression → Expression). f k s) (single_is c.in-Single.value)) c.in_ok-emit_tested-in-Single.ensures)
+    (single_joins c.args.member.now k (expression_of c.in-Single.value) _ _ _ (λ s. ap (λ (m : RMember). member_of m k s) c.in-Single.is ∙ ap (λ (f : Kind → Expression → Expression). f k s) (single_is c.in-Single.value)) c.in_ok-emit_tested-in-Single.ensures.tested)
     c.put_all.ensures
 
-pub emit_member-returns-in_ok-emit_tested-in-Span-2 : goal.emit_member-returns-in_ok-emit_tested-in-Span-2
-emit_member-returns-in_ok-emit_tested-in-Span-2 t c =
+pub expressions::emit_member-returns-in_ok-emit_tested-in-Span-2 : goal.expressions::emit_member-returns-in_ok-emit_tested-in-Span-2
+expressions::emit_member-returns-in_ok-emit_tested-in-Span-2 t c =
     let k = kind_view c.args.kind in
     with_ok c.put.result
     (span_joins c.args.member.now k (expression_of c.in-Span.low) (expression_of c.in-Span.high) _ _ _ _ (λ s. ap (λ (m : RMember). member_of m k s) c.in-Span.is ∙ ap (λ (f : Kind → Expression → Expression). f k s) (span_is c.in-Span.low c.in-Span.high))
-    c.in_ok-emit_tested-in-Span.ensures c.in_ok-emit_tested-in-Span-2.ensures)
+    c.in_ok-emit_tested-in-Span.ensures.tested c.in_ok-emit_tested-in-Span-2.ensures.tested)
     c.put.ensures
 
-pub emit_operation-returns-in_ok-emit_expression-in-Some : goal.emit_operation-returns-in_ok-emit_expression-in-Some
-emit_operation-returns-in_ok-emit_expression-in-Some t c =
+pub expressions::emit_operation-returns-in_ok-emit_expression-in-Some : goal.expressions::emit_operation-returns-in_ok-emit_expression-in-Some
+expressions::emit_operation-returns-in_ok-emit_expression-in-Some t c =
     let o = out-ROperation c.args.operation.now in
     let end = c.in_ok-end-in-Some in
     let jumps : aim_of o.operator ≡ Some c.in-Some.aim = sym c.jump_over.ensures ∙ c.in-Some.is in
     short_operation c.args.operation.now c.in-Some.aim end.end _ _ _ _ _ jumps end.ensures.emits end.ensures.makes c.in_ok-jump-in-Some.ensures c.in_ok-emit_expression-in-Some.ensures c.here.ensures.ends
 
-pub emit_operation-returns-in_ok-emit_expression-in-None : goal.emit_operation-returns-in_ok-emit_expression-in-None
-emit_operation-returns-in_ok-emit_expression-in-None t c =
+pub expressions::emit_operation-returns-in_ok-emit_expression-in-None : goal.expressions::emit_operation-returns-in_ok-emit_expression-in-None
+expressions::emit_operation-returns-in_ok-emit_expression-in-None t c =
     let none : aim_of (out-ROperation c.args.operation.now).operator ≡ None = sym c.jump_over.ensures ∙ c.in-None.is in
     with_ok c.emit_two.result (two_operation c.args.operation.now (base_view c.base.result) _ _ _ none c.base.ensures c.in_ok-emit_expression-in-None.ensures) c.emit_two.ensures
 
-pub emit_operations-loop-operation-preserved : goal.emit_operations-loop-operation-preserved
-emit_operations-loop-operation-preserved t c =
+pub expressions::emit_operations-loop-operation-preserved : goal.expressions::emit_operations-loop-operation-preserved
+expressions::emit_operations-loop-operation-preserved t c =
     each_next Operating c.args.operations.now c.loop-operation.operation-index c.operation-item.result _ _ _ c.loop-operation-test.true c.operation-item.is c.loop-operation.invariant c.in_ok-emit_operation.ensures
 
-pub emit_place-loop-selector-preserved : goal.emit_place-loop-selector-preserved
-emit_place-loop-selector-preserved t c =
+pub expressions::emit_place-loop-selector-preserved : goal.expressions::emit_place-loop-selector-preserved
+expressions::emit_place-loop-selector-preserved t c =
     next_selector c.as_slice-selectors.result.now c.loop-selector.selector-index (root_view (out-RPlace c.args.of.now).root) c.selector-item.result (access_view c.loop-selector.at.access) (access_view c.in_ok-at-2.at.access) c.loop-selector.at.shape c.in_ok-at-2.at.shape
     _ _ _ c.loop-selector-test.true c.selector-item.is c.loop-selector.invariant c.in_ok-at-2.ensures
 
-pub emit_place-returns : goal.emit_place-returns
-emit_place-returns t c =
+pub expressions::emit_place-returns : goal.expressions::emit_place-returns
+expressions::emit_place-returns t c =
     all_selectors c.args.of.now c.as_slice-selectors.result.now c.loop-selector.selector-index (access_view c.loop-selector.at.access) c.loop-selector.at.shape _ _ c.as_slice-selectors.ensures c.loop-selector-test.false c.loop-selector.invariant
 
-pub emit_selector-returns-in-Field : goal.emit_selector-returns-in-Field
-emit_selector-returns-in-Field t c =
+pub expressions::emit_selector-returns-in-Field : goal.expressions::emit_selector-returns-in-Field
+expressions::emit_selector-returns-in-Field t c =
     field_selected c.args.selector.now c.in-Field.number c.args.at.shape (access_view c.args.at.access) (access_view c.further.result) c.part-field.result _
     (λ d. ap (λ (s : RSelector). selector_of s d) c.in-Field.is ∙ field_is c.in-Field.number d) c.part-field.ensures c.further.ensures
 
-pub emit_selector-returns-in_ok-put-in-Index : goal.emit_selector-returns-in_ok-put-in-Index
-emit_selector-returns-in_ok-put-in-Index t c =
+pub expressions::emit_selector-returns-in_ok-put-in-Index : goal.expressions::emit_selector-returns-in_ok-put-in-Index
+expressions::emit_selector-returns-in_ok-put-in-Index t c =
     element_selected c.args.selector.now (kind_view c.in-Index.kind) (base_view c.base.result) (expression_of c.in-Index.index) c.args.at.shape c.least_word-least.result (access_view c.args.at.access) c.elements-elements.result _ _ _ _ _
     (λ d. ap (λ (s : RSelector). selector_of s d) c.in-Index.is ∙ index_is c.in-Index.kind c.in-Index.index d) c.elements-elements.ensures c.base.ensures c.least_word-least.ensures
     c.in_ok-emit_address-in-Index.ensures c.in_ok-emit_expression-in-Index.ensures c.in_ok-emit_test-in-Index.ensures c.in_ok-put-in-Index.ensures
 
-pub emit_selector-returns-in_ok-put-in-Follow : goal.emit_selector-returns-in_ok-put-in-Follow
-emit_selector-returns-in_ok-put-in-Follow t c =
+pub expressions::emit_selector-returns-in_ok-put-in-Follow : goal.expressions::emit_selector-returns-in_ok-put-in-Follow
+expressions::emit_selector-returns-in_ok-put-in-Follow t c =
     follow_selected c.args.selector.now c.in-Follow.pointer c.args.at.shape c.target-shape.result (access_view c.args.at.access) _ _ _
     (λ d. ap (λ (s : RSelector). selector_of s d) c.in-Follow.is ∙ follow_is c.in-Follow.pointer d) c.target-shape.ensures c.in_ok-emit_load-in-Follow.ensures c.in_ok-put-in-Follow.ensures
+
+pub expressions::emit_expression-returns-in_ok-emit_call-in-Invoke : goal.expressions::emit_expression-returns-in_ok-emit_call-in-Invoke
+expressions::emit_expression-returns-in_ok-emit_call-in-Invoke t c =
+    let i = c.in-Invoke in
+    let is = ap expression_of i.is ∙ invoke_is i.procedure i.levels i.field-2 i.given in
+    let call = subst (λ (given : List RArgument). Emits c.put-in-Invoke.new.self c.emit_call.new.code (Called i.procedure i.levels (arguments_of given))) c.as_slice-in-Invoke.ensures c.in_ok-emit_call-in-Invoke.ensures in
+    subst (λ (e : Expression). OnOk c.put-in-Invoke-2.result (Emits c.args.code.now c.put-in-Invoke-2.new.self (Value e))) (sym is)
+    (with_ok c.put-in-Invoke-2.result (invoke_emitted i.procedure i.levels (kind_view i.field-2) (arguments_of i.given) _ _ _ _ c.in_ok-put-in-Invoke.ensures call) c.put-in-Invoke-2.ensures)
+
+pub calls::emit_call-returns : goal.calls::emit_call-returns
+calls::emit_call-returns t c = with_ok c.put-2.result (call_emitted c.args.procedure c.args.levels _ (arguments_of c.args.given.now) _ _ _ _ c.in_ok-put.ensures c.in_ok-words.ensures) c.put-2.ensures
+
+pub calls::emit_given-loop-argument-preserved : goal.calls::emit_given-loop-argument-preserved
+calls::emit_given-loop-argument-preserved t c =
+    given_next c.args.given.now c.loop-argument.argument-index c.argument-item.result _ _ _ _ _ _ c.loop-argument-test.true c.argument-item.is c.saturating_add-words.ensures c.loop-argument.invariant c.in_ok-emit_pushed.ensures
+
+pub calls::emit_pushed-returns-in_ok-put-in-Value : goal.calls::emit_pushed-returns-in_ok-put-in-Value
+calls::emit_pushed-returns-in_ok-put-in-Value t c = word_pushed c.args.argument.now _ _ _ c.in-Value.is c.in_ok-emit_single-in-Value.ensures c.in_ok-put-in-Value.ensures

@@ -1,0 +1,4 @@
+MODULE Call; FROM Terminal IMPORT Write; VAR c: CARDINAL;
+PROCEDURE Next(n: CARDINAL): CARDINAL;
+BEGIN RETURN n + 1 END Next;
+BEGIN c := 60; Write(CHR(c + Next(4))) END Call.
