@@ -29,6 +29,7 @@ impl Processor {
     }
 
     /// The mark of a call of a procedure value.
+    #[inline(never)]
     pub(super) fn mark_value(&mut self, next: u16) -> Event
         ensures { on_one self.old self.old.stack (value_mark_row next self.old) ≡ (result, self.new) }
     {
@@ -65,6 +66,7 @@ impl Processor {
     }
 
     /// The words at an address go to the stack of frames.
+    #[inline(never)]
     pub(super) fn stack_part(&mut self, words: u16, next: u16) -> Event
         ensures { on_one self.old self.old.stack (words_row words next self.old) ≡ (result, self.new) }
     {
@@ -84,6 +86,7 @@ impl Processor {
     }
 
     /// The elements of an array go to the stack of frames, and their address comes in place of the array's.
+    #[inline(never)]
     pub(super) fn copy_array(&mut self, offset: u16, words: u16, next: u16) -> Event
         ensures { array_row (self.old.frame + offset) words next self.old ≡ (result, self.new) }
     {
@@ -112,6 +115,21 @@ impl Processor {
     pub(super) fn save(&mut self, next: u16) -> Event
         ensures { save_row next self.old ≡ (result, self.new) }
     {
+        if self.stack.len() == 0 {
+            return self.stack_words(&[0], 0, next);
+        }
+        if self.stack.len() == 1 {
+            let word = self.stack[0];
+            return self.stack_words(&[word, 1], 1, next);
+        }
+        self.save_all(next)
+    }
+
+    /// The same of any number of words.
+    #[inline(never)]
+    fn save_all(&mut self, next: u16) -> Event
+        ensures { save_row next self.old ≡ (result, self.new) }
+    {
         let count = self.stack.len() as u8;
         let mut words: ArrayVec<u16, 17> = ArrayVec::new();
         extend(&mut words, self.stack.as_slice());
@@ -120,7 +138,25 @@ impl Processor {
     }
 
     /// Words that were saved come back below those of the expression stack.
+    #[tactic(auto, using(crate::proofs::Lists::one_back))]
     fn take_back(&mut self, from: u16, count: u16)
+        requires room { count + length self.old.stack ≤ 16 }
+        requires there { from + count ≤ 65536 }
+        ensures { self.new ≡ record self.old { stack = self.old.stack ++ reverse (take count (drop from self.old.store)) } }
+    {
+        if count == 0 {
+            return;
+        }
+        if count == 1 {
+            self.stack.insert(0, self.memory.word(from));
+            return;
+        }
+        self.take_all_back(from, count);
+    }
+
+    /// The same of any number of words.
+    #[inline(never)]
+    fn take_all_back(&mut self, from: u16, count: u16)
         requires room { count + length self.old.stack ≤ 16 }
         requires there { from + count ≤ 65536 }
         ensures { self.new ≡ record self.old { stack = self.old.stack ++ reverse (take count (drop from self.old.store)) } }

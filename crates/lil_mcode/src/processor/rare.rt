@@ -12,6 +12,7 @@ use crate::machine::Event;
 impl Processor {
     /// Words and addresses in other modules and in outer frames.
     #[tactic(auto, unfolding(lil_asm::specs::Bytes::row_2))]
+    #[inline(never)]
     fn go_elsewhere(&mut self, first: u8, place: usize) -> Event
         requires within { place < 65535 }
         requires first { (40 ≤ first) × (first ≤ 47) × (first ≢ 44) × (first ≢ 45) }
@@ -32,17 +33,16 @@ impl Processor {
         }
     }
 
-    /// Words that go to the stack of frames, and those that come back from it.
+    /// Marks of procedure values, and arrays and records that go to the stack of frames.
     #[tactic(auto, unfolding(lil_asm::specs::Bytes::row_6))]
+    #[inline(never)]
     fn go_to_frames(&mut self, first: u8, place: usize) -> Event
         requires within { place < 65535 }
-        requires first { (96 ≤ first) × (first ≤ 107) × (first ≢ 97) × (first ≢ 101) × (first ≢ 102) × (first ≢ 103) × (first ≢ 104) × (first ≢ 106) }
+        requires first { (first ≡ 98) ⊎ ((first ≡ 100) ⊎ (first ≡ 105)) }
         ensures { performed self.old (current self.old) (row first (running_code self.old) place) ≡ (result, self.new) }
     {
         match first {
-            0x60 => self.save((place + 1) as u16),
             0x62 => self.mark_value((place + 1) as u16),
-            0x63 => self.stack_word((place + 1) as u16),
             0x64 => {
                 let Some(words) = self.word(place + 1) else {
                     return Event::BadCode;
@@ -54,12 +54,6 @@ impl Processor {
                     return Event::BadCode;
                 };
                 self.copy_array(offset, words, (place + 5) as u16)
-            }
-            0x6b => {
-                let Some(own) = self.byte(place + 1) else {
-                    return Event::BadCode;
-                };
-                self.restore(own, (place + 2) as u16)
             }
             _ => unreachable!(),
         }
@@ -80,6 +74,7 @@ impl Processor {
 
     /// Calls in other modules, and of procedure values.
     #[tactic(auto, unfolding(lil_asm::specs::Bytes::row_6))]
+    #[inline(never)]
     fn call_elsewhere(&mut self, first: u8, place: usize) -> Event
         requires within { place < 65535 }
         requires first { (102 ≤ first) × (first ≤ 103) }
@@ -97,8 +92,9 @@ impl Processor {
         self.call_value(words, (place + 3) as u16)
     }
 
-    /// A rare row: the loop of the others has one call for all of them.
+    /// A rare row: the loop of the others has one call for all of them. Those that calls of functions have come first.
     #[inline(never)]
+    #[tactic(auto, unfolding(lil_asm::specs::Bytes::row_6))]
     pub(super) fn rare(&mut self, first: u8, place: usize) -> Event
         requires within { place < 65535 }
         requires elsewhere { (40 ≤ first) × (first ≢ 44) × (first ≢ 45) }
@@ -107,6 +103,14 @@ impl Processor {
         ensures { performed self.old (current self.old) (row first (running_code self.old) place) ≡ (result, self.new) }
     {
         match first {
+            0x60 => self.save((place + 1) as u16),
+            0x63 => self.stack_word((place + 1) as u16),
+            0x6b => {
+                let Some(own) = self.byte(place + 1) else {
+                    return Event::BadCode;
+                };
+                self.restore(own, (place + 2) as u16)
+            }
             0x28..=0x2f => self.go_elsewhere(first, place),
             0x66..=0x67 => self.call_elsewhere(first, place),
             _ => self.go_to_frames(first, place),
