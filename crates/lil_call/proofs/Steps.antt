@@ -7,7 +7,7 @@ use Rattle.lil_declared.specs.declared.standard.Standard.{Standard}
 use Rattle.lil_resolved.specs.declared.resolved.RStmt.{RStmt}
 use Rattle.lil_report.specs.{declared.report.Fault.Fault, Told.{Row, after, Said}, Laws.{said_after, said_as, said_to, said_map, said_pure}}
 use Rattle.lil_kinds.specs.{Forms.result, declared.found.Found.Found}
-use Rattle.lil_forms.specs.Statements.{located_in}
+use Rattle.lil_forms.specs.Places.{located_in}
 use Rattle.lil_call.specs.{declared.{call.{Argument.Argument, Callee.Callee}, passing.Passed.Passed, routines.Invoked.Invoked}, Passing.{nothing_passed, arguments_mean}}
 use Rattle.lil_call.specs.Procedures.{standard_node, function_if, function_mean, of_all, ordinal_node, converted, converted_if, kept_if, procedure_if, procedure_mean, by_all, variable_node, operand_node, deep_node, done_if, variable_statement, operand_statement, with_variable, with_operand}
 use Rattle.lil_call.specs.Calls.{is_resident, heading_node, depth_node, passed_if, routine_mean, call_found, routine_value, call_statement, routine_statement, value_of, statement_of}

@@ -9,7 +9,7 @@ use Rattle.lil_scope.specs.declared.thing.Kind.TheVariants as kind
 use Rattle.lil_kinds.specs.{Kinds.{is_ordinal, is_constant, compatible, number}, Operators.{function, extreme}, declared.found.{Applied.{Applied, TheVariants.{Refused, Outside, Gives}}, Form.Form, Found.Found, Located.Located}, Forms.{target, set_base, element_span, is_opaque}}
 use Rattle.lil_kinds.specs.declared.found.Form.TheVariants as form
 use Rattle.lil_kinds.specs.declared.found.Standing.TheVariants as standing
-use Rattle.lil_forms.specs.{Values.{value_form, applied, function_by, typed}, Statements.{located_in, changed, changed_by_one, turned, created, disposed}}
+use Rattle.lil_forms.specs.{Values.{value_form, function_value}, Places.located_in, Statements.{changed, changed_by_one, turned, created, disposed}}
 use Rattle.lil_call.specs.{declared.call.Argument.Argument, Passing.is_variable}
 use Rattle.lil_call.specs.declared.call.Argument.TheVariants as argument
 use Rattle.lil_resolved.specs.declared.resolved.{Direction.TheVariants.{Up, Down}, Membership.TheVariants.{Joins, Leaves}, RStmt.RStmt}
@@ -57,7 +57,7 @@ standard_node p wanted of count = (
 -- ---- the value of a function
 -- a function of a value; VAL gives values of a type
 abbrev pub function_form : Table → Standard → ℕ → Found → Form
-function_form t of sort x = value_form (applied (function_by t of sort) (typed t cardinal x))
+function_form t of sort x = value_form (function_value t of sort x)
 
 -- a constant has no form
 abbrev pub kept_form : Form → Kind → Form

@@ -5,11 +5,11 @@ ghost use Rattle.lil_call.specs.Procedures as spec;
 use crate::call::Argument;
 use lil_base::{FaultKind, Items, Memory, Place};
 use lil_declared::Standard;
-use lil_forms::{applied, function_by, typed, value_form};
+use lil_forms::{function_value, value_form};
 use lil_kinds::{Applied, Form, Found, Standing, extreme, function, is_constant, is_ordinal};
 use lil_report::Report;
 use lil_scope::Kind;
-use lil_types::{CARDINAL, INTEGER, TypeId, TypeTable};
+use lil_types::{INTEGER, TypeId, TypeTable};
 use std::alloc::Global;
 
 fn is_function(of: Standard) -> bool
@@ -85,10 +85,7 @@ fn function_form(
 ) -> Result<Form, Memory>
     ensures { IfOk result (λ f. f ≡ spec.function_form t.now of sort x) }
 {
-    let function = function_by(t, of, sort);
-    let value = typed(t, CARDINAL, x);
-    let made = applied(alloc, function, value)?;
-    Ok(value_form(made))
+    Ok(value_form(function_value(alloc, t, of, sort, x)?))
 }
 
 /// A constant has no form.

@@ -10,7 +10,7 @@ use Rattle.lil_declared.specs.declared.declared.RProc.{RProc}
 use Rattle.lil_scope.specs.{declared.{entering.Around.Around, env.{Env.Env, Wait.Wait}}, Names.{inside, entered, outside, around, back, begun}}
 use Rattle.lil_check_value.specs.Looks.{said_not_built}
 use Rattle.lil_check_type.specs.{Walks.walk_steps, Made.Made, Records.no_parameters}
-use Rattle.lil_check_decl.specs.{declared.home.Home.Home, Constants.constant_step, Headings.{Headed, section_step, home_at, named_means, heading_type, any_open, heading_means}, Decls.{Means, Sense, with_no_types, expecting, decl_step, type_step, variables_step, block_end, procedure_means, alone_means, decl_layer, block_layer, decl_sense, decls_inside}}
+use Rattle.lil_check_decl.specs.{declared.home.Home.Home, Constants.constant_step, Headings.{Headed, section_step, home_at, named_means, heading_type, heading_means}, Decls.{Means, Sense, with_no_types, expecting, decl_step, type_step, variables_step, block_end, procedure_means, alone_means, decl_layer, block_layer, decl_sense, decls_inside}}
 
 block_means : Block → Means
 block_means = fold-Block Sense Means decl_layer block_layer
@@ -65,12 +65,11 @@ module _ (e : Env) {r : Option Fault} where
       (subst (λ (z : Env × List Row). Said z t v s) (λ j. decls_inside (now j) ((enters ∙ ap (λ (n : ℕ). entered n f) number) j) (these j)) m))
       (leaves ∙ ap (λ a. back a v) stands)))
 
-  pub is_heading : (h : Heading) (more : Bool) (k : ℕ) (ss : List Section) {b : Env} {home : Home} {q : Headed} {m : Made} {f : Env} {a s t u : Option Fault} → k ≡ length e.scopes.blocks → b ≡ begun e → home ≡ home_at b k → ss ≡ h.sections
-      → Said {A = Headed} (walk (section_step home) (b, no_parameters) ss) r q t → more ≡ any_open q.1.list → a ≡ noted t (row more h.place NotBuilt) → Said (heading_type q h) a m u → Said (named_means k h.name m) u f s → Said (heading_means e h) r f s
-  is_heading h more k ss {b = b} {home = home} {q = q} {m = m} {f = f} {a = a} {s = s} {t = t} {u = u} num new is these l has note n p = said_after _ _
+  pub is_heading : (h : Heading) (k : ℕ) (ss : List Section) {b : Env} {home : Home} {q : Headed} {m : Made} {f : Env} {s t u : Option Fault} → k ≡ length e.scopes.blocks → b ≡ begun e → home ≡ home_at b k → ss ≡ h.sections
+      → Said {A = Headed} (walk (section_step home) (b, no_parameters) ss) r q t → Said (heading_type q h) t m u → Said (named_means k h.name m) u f s → Said (heading_means e h) r f s
+  is_heading h k ss {b = b} {home = home} {q = q} {m = m} {f = f} {s = s} {t = t} {u = u} num new is these l n p = said_after _ _
       (subst (λ k. Said {A = Headed} (walk (section_step (home_at e k)) (begun e, no_parameters) h.sections) r q t) num
       (subst (λ b. Said {A = Headed} (walk (section_step (home_at b k)) (b, no_parameters) h.sections) r q t) new
       (subst (λ home. Said {A = Headed} (walk (section_step home) (b, no_parameters) h.sections) r q t) is
       (subst (λ ss. Said {A = Headed} (walk (section_step home) (b, no_parameters) ss) r q t) these l))))
-      (said_not_built (any_open q.1.list) h.place (note ∙ ap (λ (b : Bool). noted t (row b h.place NotBuilt)) has)
-      (said_after _ _ n (subst (λ k. Said (named_means k h.name m) u f s) num p)))
+      (said_after _ _ n (subst (λ k. Said (named_means k h.name m) u f s) num p))

@@ -1,16 +1,15 @@
 -- Variables and parameters, and the headings of procedures.
-use Rattle.std.specs.Prelude.{ℕ, ◌+◌, nat_le, length, Bool, true, false, List, [], ◌∷◌, ◌++◌, Option, Some, None}
-use Rattle.std.specs.List.{list_any}
+use Rattle.std.specs.Prelude.{ℕ, ◌+◌, nat_le, length, List, [], ◌∷◌, ◌++◌, Option, Some, None}
 use Rattle.lil_base.specs.declared.fault.FaultKind.TheVariants.{TooManyProcs}
 use Rattle.lil_text.specs.declared.tree.{Ident.Ident, Qualident.Qualident}
 use Rattle.lil_language.specs.declared.unit.{Section.Section, Heading.Heading}
 use Rattle.lil_types.specs.{Types.Table, declared.table.Parameter.Parameter}
-use Rattle.lil_declared.specs.declared.declared.Mode.{Mode, TheVariants.{Plain, Value, Place, OpenValue, OpenPlace}}
+use Rattle.lil_declared.specs.{Modes.mode_of, declared.declared.Mode.TheVariants.Plain}
 use Rattle.lil_declared.specs.declared.declared.{RProc.RProc, RVar.RVar}
 use Rattle.lil_report.specs.Told.{Row, row, after, walk}
 use Rattle.lil_scope.specs.{declared.{thing.Thing.Thing, env.Env.Env}, Names.{bind, bind_at, begun, with_local, variables_of, level, visible, chain}}
 use Rattle.lil_scope.specs.declared.thing.Thing.TheVariants as t
-use Rattle.lil_check_value.specs.Looks.{type_named, not_built}
+use Rattle.lil_check_value.specs.Looks.{type_named}
 use Rattle.lil_check_type.specs.{declared.routines.Parameters.Parameters, Made.{Made, form_node}, Records.{is_structure, sort_or, no_parameters, with_parameter, result_means, procedure_form}}
 use Rattle.lil_check_decl.specs.declared.home.Home.{Home}
 
@@ -35,12 +34,6 @@ abbrev pub here : Env → Home
 here e = record { block = e.scopes.inner; level = level e; owner = e.procedure; mode = Plain }
 
 -- ---- parameters: names of one section have one type, which is looked for around the procedure
-abbrev pub mode_of : Bool → Bool → Mode
-mode_of false false = Value
-mode_of true false = Place
-mode_of false true = OpenValue
-mode_of true true = OpenPlace
-
 abbrev pub section_home : Home → Section → Home
 section_home h s = record { block = h.block; level = h.level; owner = h.owner; mode = mode_of s.by_place s.open_array }
 
@@ -87,12 +80,5 @@ sections_mean e h = walk (section_step (home_at e (length e.scopes.blocks))) (be
 abbrev pub heading_type : Headed → Heading → Made × List Row
 heading_type q h = after (result_means q.0 h.result) (λ n. form_node q.0 h.place (procedure_form q.1 n))
 
-abbrev pub is_open : Parameter → Bool
-is_open p = p.open_array
-
--- 90 NotBuilt: it has an open array
-abbrev pub any_open : List Parameter → Bool
-any_open ps = list_any is_open ps
-
 abbrev pub heading_means : Env → Heading → Env × List Row
-heading_means e h = after (sections_mean e h) (λ q. not_built (any_open q.1.list) h.place (after (heading_type q h) (named_means (length e.scopes.blocks) h.name)))
+heading_means e h = after (sections_mean e h) (λ q. after (heading_type q h) (named_means (length e.scopes.blocks) h.name))

@@ -1,5 +1,4 @@
 ghost use Rattle.std.specs.Prelude.{◌≡◌, length, IfOk};
-ghost use Rattle.std.specs.List.{list_any};
 ghost use Rattle.lil_report.specs.Told.{Said, walk};
 ghost use Rattle.lil_scope.specs.Names as names;
 ghost use Rattle.lil_check_type.specs.Records.{no_parameters};
@@ -9,7 +8,7 @@ use crate::home::Home;
 use lil_base::{FaultKind, Memory};
 use lil_check_type::{Parameters, add_form, add_parameter, procedure_form, result_type, sort_or};
 use lil_check_value::type_named;
-use lil_declared::{Mode, RProc, RVar};
+use lil_declared::{Mode, RProc, RVar, mode_of};
 use lil_language::{Heading, Section};
 use lil_report::Report;
 use lil_scope::{Env, Routine, Thing, Variable, bind, bind_at, chain, visible};
@@ -104,17 +103,6 @@ pub fn here(env: &Env) -> Home
         level: env.scopes.outer.len(),
         owner: env.procedure,
         mode: Mode::Plain,
-    }
-}
-
-fn mode_of(by_place: bool, open_array: bool) -> Mode
-    ensures { result ≡ spec.mode_of by_place open_array }
-{
-    match (by_place, open_array) {
-        (false, false) => Mode::Value,
-        (true, false) => Mode::Place,
-        (false, true) => Mode::OpenValue,
-        (true, true) => Mode::OpenPlace,
     }
 }
 
@@ -313,12 +301,6 @@ fn named(
     numbered(alloc, env, report, block, sort, of)
 }
 
-fn any_open(parameters: &[Parameter]) -> bool
-    ensures { result ≡ spec.any_open parameters.now }
-{
-    parameters.iter().any(|one| one.open_array)
-}
-
 /// The heading of a procedure.
 #[tactic(auto, using(lil_check_type::specs::Walks::walk_steps), unfolding(lil_check_value::specs::Looks::not_built, lil_report::specs::Told::after, lil_report::specs::Told::tell))]
 pub fn heading(
@@ -332,8 +314,6 @@ pub fn heading(
     let block = begin(alloc, env)?;
     let home = home_at(env, block);
     let parameters = sections(alloc, env, report, home, of.sections.as_slice())?;
-    let open = any_open(parameters.list.as_slice());
-    report.note(open, of.place, FaultKind::NotBuilt);
     let sort = heading_type(env, report, parameters, of)?;
     named(alloc, env, report, block, &of.name, sort)
 }

@@ -9,7 +9,7 @@ use Rattle.lil_report.specs.Told.{Row, row}
 use Rattle.lil_scope.specs.declared.thing.Kind.{Kind}
 use Rattle.lil_scope.specs.declared.thing.Kind.TheVariants as k
 use Rattle.lil_kinds.specs.{declared.found.{Form.Form, Found.Found}, Forms.is_record, Kinds.{assignable, misses, is_ordinal}}
-use Rattle.lil_forms.specs.{Values.typed, Statements.{located_in, assigned}}
+use Rattle.lil_forms.specs.{Values.typed, Places.located_in, Statements.assigned}
 use Rattle.lil_check_type.specs.Nodes.{node}
 use Rattle.lil_check_stmt.specs.declared.nodes.Opened.{Opened}
 

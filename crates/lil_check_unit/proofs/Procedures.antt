@@ -3,13 +3,13 @@ use Rattle.std.proofs.Common.{◌≡◌, ℕ, zero, suc, ◌+◌, ◌<◌, ◌�
 use Rattle.std.specs.Option.{option_map}
 use Rattle.std.proofs.lemmas.{List.{length-map, length_push, Sums.sum_by-cons}, Option.{none-some, same_Some, slice_get_within}}
 use Rattle.lil_types.specs.{Types.Table, declared.table.Parameter.Parameter}
-use Rattle.lil_declared.specs.declared.declared.{Mode.TheVariants.{Plain, Place}, RProc.RProc, RVar.RVar}
+use Rattle.lil_declared.specs.declared.declared.{Mode.TheVariants.Plain, RProc.RProc, RVar.RVar}
 use Rattle.lil_report.specs.Told.{pure, walk}
 use Rattle.lil_resolved.specs.{Kinds.{Shape, Outline, Scope, procedure_by, parameters_of, result_of, Declared}, Resolved.{Procedure, outline_of}, Sizes.{body_strings, procedures_strings}, Views.statements_of, declared.resolved.RStmt.RStmt}
 use Rattle.lil_kinds.specs.Forms.{arity, parameters, result}
 use Rattle.lil_shapes.specs.{ListLaws.AllFine, Shaping.{all_some, held_in, lying}}
 use Rattle.lil_shapes.specs.Shaping as shaping
-use Rattle.lil_forms.specs.{Scopes.{IsOutlined, AreOutlined, Calls, first_some, parameter_shape}, Values.returned}
+use Rattle.lil_forms.specs.{Scopes.{IsOutlined, AreOutlined, Calls, first_some, parameter_shape}, Values.returned, Variables.HoldsAddress}
 use Rattle.lil_scope.specs.{declared.env.Env.Env, Names.{entered, locals_by, locals_in}}
 use Rattle.lil_layout.specs.Data.{text_words}
 use Rattle.lil_language.specs.declared.tree.Stmt.{Stmt}
@@ -45,8 +45,8 @@ module _ (t : Table) (locals : ℕ → Option (List Shape)) where
   outline_at qs n q is = let same : 0 + n ≡ n = omega arith in outline_from 0 qs n q is ∙ ap (λ (k : ℕ). Some (outline k q)) same
 
 -- a variable that holds an address is one of the parameters
-headed_first : (ps : List Parameter) (vs : List RVar) → AreHeaded ps vs → (x : ℕ) (v : RVar) → slice_get vs x ≡ Some v → v.mode ≡ Place → x < length ps
-headed_first [] vs h x v is place = absurd (let plain : v.mode ≡ Plain = fine_at (λ (v : RVar). v.mode ≡ Plain) vs x v h is in cc)
+headed_first : (ps : List Parameter) (vs : List RVar) → AreHeaded ps vs → (x : ℕ) (v : RVar) → slice_get vs x ≡ Some v → HoldsAddress v.mode → x < length ps
+headed_first [] vs h x v is holds = absurd (subst HoldsAddress (fine_at (λ (v : RVar). v.mode ≡ Plain) vs x v h is) holds)
 headed_first (p ∷ ps) [] h x v is place = absurd h
 headed_first (p ∷ ps) (w ∷ vs) h zero v is place = omega arith
 headed_first (p ∷ ps) (w ∷ vs) h (suc x) v is place = let less : x < length ps = headed_first ps vs h.2 x v is place in omega (arith, less)

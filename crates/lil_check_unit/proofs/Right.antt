@@ -15,7 +15,7 @@ use Rattle.lil_scope.specs.{declared.env.Env.Env, Names.{around_of, chain_by, ch
 use Rattle.lil_layout.specs.Data.{variable_words, data_words}
 use Rattle.lil_check_stmt.specs.{Statements.{result_of, result_by, statements_mean}, Texts.texts, Stmts.{Bodies, body_step, bodies_mean}, declared.stmt.Stated.Stated}
 use Rattle.lil_interfaces.specs.{declared.surface.Interface.Interface, Interfaces.residents}
-use Rattle.lil_right_type.specs.{Right.{Right, Clear, clear_left, clear_right, IsThere, IsAny}, Homes.{HasPassing, IsSeen, stands_inside}}
+use Rattle.lil_right_type.specs.{Right.{Right, Clear, clear_left, clear_right, IsThere, IsAny}, Homes.{IsSeen, stands_inside}}
 use Rattle.lil_right_stmt.specs.Nodes.{Returns}
 use Rattle.lil_resolved.specs.Kinds as Kinds
 use Rattle.lil_right_stmt.specs.Statements.{statements_right}
@@ -102,7 +102,7 @@ module _ (e : Env) (d : Declared e) (settled : e.waits ≡ []) (shapes ts : List
 
   -- something lies in the variables of each procedure
   they_lie : (p : ℕ) → (ss : List Shape) × (locals p ≡ Some ss)
-  they_lie p = locals_there e.types d.told.types d.told.words shapes all (locals_in e.locals p) (fine_in (AllLie HasPassing e.types) e.locals p d.variables.1 tt)
+  they_lie p = locals_there e.types d.told.types d.told.words shapes all (locals_in e.locals p) (fine_in (AllLie e.types) e.locals p d.variables.1 tt)
 
   fits : (chain : List ℕ) → Fits e.types (seen_in e.variables e.locals chain) [] (IsSeen e.procedures chain) (scope chain)
   fits chain = outside e.types e.variables e.locals shapes ts (outlines e.types locals 0 e.procedures) chain all variables (are_outlined e.types shapes e.locals e.procedures d.told.homed.each they_lie d.headed)

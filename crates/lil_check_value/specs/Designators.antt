@@ -19,7 +19,7 @@ use Rattle.lil_types.specs.Types.{Table, cardinal, char}
 use Rattle.lil_declared.specs.declared.declared.Mode.{Mode}
 use Rattle.lil_declared.specs.declared.declared.Mode.TheVariants as mode
 use Rattle.lil_forms.specs.Places as places
-use Rattle.lil_forms.specs.{Places.{variable_at, held_at}, Variables.{named_at, seen}}
+use Rattle.lil_forms.specs.{Places.{located_form, located_in, variable_at, held_at}, Variables.{named_at, seen}}
 use Rattle.lil_resolved.specs.declared.resolved.RNamed.{RNamed}
 
 abbrev pub Reaches : Type 0
@@ -27,12 +27,12 @@ Reaches = Option Reached × List Row
 
 -- ---- names
 -- where a variable lies that is seen
-abbrev pub place_named : Env → Option RNamed → Option Located
-place_named e None = None
-place_named e (Some n) = variable_at n (seen e n)
+abbrev pub form_named : Env → Option RNamed → Form
+form_named e None = form.Nothing
+form_named e (Some n) = variable_at n (seen e n)
 
-abbrev pub variable_place : Env → Variable → Option Located
-variable_place e v = place_named e (named_at e v)
+abbrev pub form_of : Env → Variable → Form
+form_of e v = form_named e (named_at e v)
 
 abbrev pub kind_by : Mode → ℕ → Kind
 kind_by mode.Plain s = k.Of s
@@ -45,15 +45,15 @@ abbrev pub variable_kind : Variable → Kind
 variable_kind v = kind_by v.mode v.sort
 
 -- a variable as a whole: the place where the designator begins, that of its name, where it lies, and its kind
-abbrev pub whole_part : Place → Place → Option Located → Kind → Part
-whole_part p q place kind = record { first = p; name = q; place = place; is_whole = true; kind = kind; depth = 1; standing = standing.Variable }
+abbrev pub whole_part : Place → Place → Form → Kind → Part
+whole_part p q f kind = record { first = p; name = q; form = f; is_whole = true; kind = kind; depth = 1; standing = standing.Variable }
 
 abbrev pub named : Place → Place → Thing → Reached
 named p q x = reached.Other (record { first = p; name = q; thing = x })
 
 -- no value where the declaration of the name has a fault
 abbrev pub thing_reached : Env → Place → Place → Thing → Option Reached
-thing_reached e p q (t.Variable v) = Some (reached.Part (whole_part p q (variable_place e v) (variable_kind v)))
+thing_reached e p q (t.Variable v) = Some (reached.Part (whole_part p q (form_of e v) (variable_kind v)))
 thing_reached e p q t.Hidden = None
 thing_reached e p q t.Broken = None
 thing_reached e p q (t.Constant c) = Some (named p q (t.Constant c))
@@ -71,7 +71,7 @@ held_field e w f = places.field_of e.types f (held_at e.withs w)
 
 abbrev pub looked_reached : Env → Place → Place → Looked → Option Reached
 looked_reached e p q Nothing = None
-looked_reached e p q (Field w f s) = Some (reached.Part (whole_part p q (held_field e w f) (k.Of s)))
+looked_reached e p q (Field w f s) = Some (reached.Part (whole_part p q (located_form (held_field e w f)) (k.Of s)))
 looked_reached e p q (Declared x) = thing_reached e p q x
 
 -- a name at q in a designator that begins at p; where it is one of a module, the module's name stands at another place
@@ -108,7 +108,7 @@ field_of types (k.Of s) n = field types s n
 field_of types _ n = None
 
 abbrev pub with_field : Table → Part → FieldAt → Part
-with_field types a f = record a { place = places.field_of types f.number a.place; is_whole = false; kind = k.Of f.sort; standing = standing.Variable }
+with_field types a f = record a { form = located_form (places.field_of types f.number (located_in a.form)); is_whole = false; kind = k.Of f.sort; standing = standing.Variable }
 
 abbrev pub field_found : Table → Part → Option FieldAt → Option Reached
 field_found types a None = None
@@ -155,7 +155,7 @@ abbrev pub element_standing : ℕ → Standing
 element_standing s = if s == char then standing.Character else standing.Variable
 
 abbrev pub with_index : Table → Part → Found → ArrayParts → ℕ → Part
-with_index types a i parts d = record { first = a.first; name = a.name; place = places.element_of types i a.place; is_whole = false; kind = k.Of parts.element; depth = d; standing = element_standing parts.element }
+with_index types a i parts d = record { first = a.first; name = a.name; form = located_form (places.element_of types i a.form); is_whole = false; kind = k.Of parts.element; depth = d; standing = element_standing parts.element }
 
 abbrev pub deep_row : Option ℕ → Place → Row
 deep_row d p = row (is_none d) p ExprDeep
@@ -206,7 +206,7 @@ target_of types (k.Of s) = target types s
 target_of types _ = None
 
 abbrev pub with_follow : Table → Part → ℕ → Part
-with_follow types a s = record a { place = places.target_of types a.place; is_whole = false; kind = k.Of s; standing = standing.Variable }
+with_follow types a s = record a { form = located_form (places.target_of types (located_in a.form)); is_whole = false; kind = k.Of s; standing = standing.Variable }
 
 abbrev pub target_found : Table → Part → Option ℕ → Option Reached
 target_found types a None = None
@@ -243,12 +243,8 @@ follow_node e arrow (Some (reached.Other o)) = other_follow arrow o
 -- ---- what a designator is where it is used: as a value, as a variable, as what is called, and as a type's name
 
 -- ---- values
-abbrev pub located_form : Option Located → Form
-located_form None = form.Nothing
-located_form (Some p) = form.Located p
-
 abbrev pub part_found : Part → Found
-part_found a = record { form = located_form a.place; kind = a.kind; first = a.first; depth = a.depth; standing = a.standing }
+part_found a = record { form = a.form; kind = a.kind; first = a.first; depth = a.depth; standing = a.standing }
 
 -- a procedure that another one declares, or that the module doesn't declare, is no value
 abbrev pub no_value : Thing → Bool

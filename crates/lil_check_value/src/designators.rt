@@ -5,9 +5,9 @@ ghost use Rattle.lil_check_value.specs.Designators as spec;
 use crate::names::{Looked, is_built_name, is_hidden, is_nothing, look, looked_as};
 use lil_base::{FaultKind, Memory, Name, Place};
 use lil_declared::Mode;
-use lil_forms::{element_of, held_at, named_at, seen, variable_at};
+use lil_forms::{element_of, held_at, located_form, located_in, named_at, seen, variable_at};
 use lil_kinds::{
-    ArrayParts, FieldAt, Found, Located, Standing, array_parts, assignable, field, is_opaque,
+    ArrayParts, FieldAt, Form, Found, Located, Standing, array_parts, assignable, field, is_opaque,
     is_record, misses, target,
 };
 use lil_operators::raised;
@@ -17,13 +17,12 @@ use lil_text::Ident;
 use lil_types::{CARDINAL, CHAR, TypeId, TypeTable};
 use std::alloc::Global;
 
-/// A variable or a part of one: where the designator begins, where its last name stands, the place that it names, where that
-/// has code, whether nothing is selected, what is known of its value, its depth, and whether it is a character of an array.
+/// A variable or a part of one: where the designator begins, where its last name stands, the form of what it names, whether nothing is selected, what is known of its value, its depth, and whether it is a character of an array.
 #[derive(Drop)]
 pub struct Part {
     pub first: Place,
     pub name: Place,
-    pub place: Option<Located>,
+    pub form: Form,
     pub is_whole: bool,
     pub kind: Kind,
     pub depth: usize,
@@ -45,12 +44,12 @@ pub enum Reached {
     Other(Named),
 }
 
-/// Where a variable lies, None where it isn't seen.
-fn variable_place(alloc: Global, env: &Env, of: Variable) -> Option<Located>
-    ensures { result ≡ spec.variable_place env.now of }
+/// Where a variable lies, Nothing where it isn't seen.
+fn form_of(alloc: Global, env: &Env, of: Variable) -> Form
+    ensures { result ≡ spec.form_of env.now of }
 {
     match named_at(env, of) {
-        None => None,
+        None => Form::Nothing,
         Some(named) => variable_at(alloc, named, seen(env, named)),
     }
 }
@@ -67,13 +66,13 @@ fn variable_kind(of: Variable) -> Kind
     }
 }
 
-fn whole_part(first: Place, name: Place, place: Option<Located>, kind: Kind) -> Part
-    ensures { result ≡ spec.whole_part first name place kind }
+fn whole_part(first: Place, name: Place, form: Form, kind: Kind) -> Part
+    ensures { result ≡ spec.whole_part first name form kind }
 {
     Part {
         first,
         name,
-        place,
+        form,
         is_whole: true,
         kind,
         depth: 1,
@@ -95,7 +94,7 @@ fn thing_reached(
         Thing::Variable(of) => Some(Reached::Part(whole_part(
             first,
             name,
-            variable_place(alloc, env, of),
+            form_of(alloc, env, of),
             variable_kind(of),
         ))),
         Thing::Hidden => None,
@@ -129,8 +128,8 @@ fn looked_reached(
     match of {
         Looked::Nothing => Ok(None),
         Looked::Field(with, number, sort) => {
-            let place = held_field(alloc, env, with, number)?;
-            let part = whole_part(first, name, place, Kind::Of(sort));
+            let form = located_form(held_field(alloc, env, with, number)?);
+            let part = whole_part(first, name, form, Kind::Of(sort));
             Ok(Some(Reached::Part(part)))
         }
         Looked::Thing(thing) => Ok(thing_reached(alloc, env, first, name, thing)),
@@ -207,7 +206,7 @@ fn with_field(types: &TypeTable, of: Part, field: FieldAt) -> Result<Part, Memor
     Ok(Part {
         first: of.first,
         name: of.name,
-        place: lil_forms::field_of(types, field.number, of.place)?,
+        form: located_form(lil_forms::field_of(types, field.number, located_in(of.form))?),
         is_whole: false,
         kind: Kind::Of(field.sort),
         depth: of.depth,
@@ -337,6 +336,7 @@ fn element_standing(sort: TypeId) -> Standing
 }
 
 fn with_index(
+    alloc: Global,
     types: &TypeTable,
     of: Part,
     index: Found,
@@ -348,7 +348,7 @@ fn with_index(
     Ok(Part {
         first: of.first,
         name: of.name,
-        place: element_of(types, index, of.place)?,
+        form: located_form(element_of(alloc, types, index, of.form)?),
         is_whole: false,
         kind: Kind::Of(parts.element),
         depth,
@@ -363,6 +363,7 @@ fn index_fits(types: &TypeTable, parts: ArrayParts, kind: Kind) -> bool
 }
 
 fn element_value(
+    alloc: Global,
     types: &TypeTable,
     of: Part,
     index: Found,
@@ -374,7 +375,7 @@ fn element_value(
     match (parts, depth) {
         (Some(parts), Some(depth)) => {
             if index_fits(types, parts, index.kind) {
-                let part = with_index(types, of, index, parts, depth)?;
+                let part = with_index(alloc, types, of, index, parts, depth)?;
                 Ok(Some(Reached::Part(part)))
             } else {
                 drop((of, index));
@@ -420,6 +421,7 @@ fn test_index(
 /// An index of a variable or of a part of one.
 #[tactic(auto, unfolding(crate::specs::Designators::part_index, lil_report::specs::Told::tell))]
 fn part_index(
+    alloc: Global,
     types: &TypeTable,
     report: &mut Report,
     bracket: Place,
@@ -432,7 +434,7 @@ fn part_index(
     let parts = parts_of(types, of.kind);
     report.note(depth.is_none(), of.first, FaultKind::ExprDeep);
     test_index(types, report, bracket, index.first, index.kind, parts);
-    let value = element_value(types, of, index, parts, depth)?;
+    let value = element_value(alloc, types, of, index, parts, depth)?;
     Ok(value)
 }
 
@@ -462,6 +464,7 @@ fn other_index(
 /// One index.
 #[tactic(auto, unfolding(lil_report::specs::Told::tell))]
 pub(crate) fn index_node(
+    alloc: Global,
     types: &TypeTable,
     report: &mut Report,
     bracket: Place,
@@ -486,7 +489,7 @@ pub(crate) fn index_node(
                 Ok(None)
             }
             Some(index) => {
-                let value = part_index(types, report, bracket, part, index)?;
+                let value = part_index(alloc, types, report, bracket, part, index)?;
                 Ok(value)
             }
         },
@@ -517,7 +520,7 @@ fn with_follow(types: &TypeTable, of: Part, sort: TypeId) -> Result<Part, Memory
     Ok(Part {
         first: of.first,
         name: of.name,
-        place: lil_forms::target_of(types, of.place)?,
+        form: located_form(lil_forms::target_of(types, located_in(of.form))?),
         is_whole: false,
         kind: Kind::Of(sort),
         depth: of.depth,

@@ -5,26 +5,17 @@ ghost use Rattle.lil_check_value.specs.Designators as spec;
 use crate::designators::{Named, Part, Reached, is_misplaced};
 use lil_base::{FaultKind, Items, Memory, Place, Shared, Text};
 use lil_call::{Argument, Callee};
-use lil_kinds::{Form, Found, Located};
+use lil_kinds::{Form, Found};
 use lil_operators::{constant_found, plain_found};
 use lil_report::Report;
 use lil_scope::{Env, Kind, Routine, Thing, levels_out};
 use lil_types::TypeId;
 
-fn located_form(of: Option<Located>) -> Form
-    ensures { result ≡ spec.located_form of }
-{
-    match of {
-        None => Form::Nothing,
-        Some(of) => Form::Located(of),
-    }
-}
-
 fn part_found(of: Part) -> Found
     ensures { result ≡ spec.part_found of }
 {
     Found {
-        form: located_form(of.place),
+        form: of.form,
         kind: of.kind,
         first: of.first,
         depth: of.depth,

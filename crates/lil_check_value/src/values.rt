@@ -53,7 +53,7 @@ fn indexed(
     let mut of = of;
     for one in indexes {
         let (before, index) = beside(of, expression(alloc, env, report, one))?;
-        of = index_node(&env.types, report, bracket, before, index)?;
+        of = index_node(alloc, &env.types, report, bracket, before, index)?;
     }
     Ok(of)
 }

@@ -1,3 +1,6 @@
+ghost use Rattle.std.specs.Prelude.{◌≡◌};
+ghost use Rattle.lil_declared.specs.Modes as spec;
+
 use lil_base::{Items, Name};
 use lil_types::TypeId;
 
@@ -10,6 +13,18 @@ pub enum Mode {
     Place,
     OpenValue,
     OpenPlace,
+}
+
+/// How a parameter is handed over: by place or by value, and as an open array or not.
+pub fn mode_of(by_place: bool, open_array: bool) -> Mode
+    ensures { result ≡ spec.mode_of by_place open_array }
+{
+    match (by_place, open_array) {
+        (false, false) => Mode::Value,
+        (true, false) => Mode::Place,
+        (false, true) => Mode::OpenValue,
+        (true, true) => Mode::OpenPlace,
+    }
 }
 
 /// A variable: its type, or the type of its elements where it is an open array.

@@ -4,5 +4,5 @@
 mod declared;
 mod standard;
 
-pub use declared::{Mode, RProc, RVar};
+pub use declared::{Mode, RProc, RVar, mode_of};
 pub use standard::{Resident, Standard};

@@ -4,4 +4,5 @@ pub mod Chains
 pub mod Sets
 pub mod Tables
 pub mod Placing
+pub mod Opens
 pub mod Calling

@@ -1,14 +1,15 @@
 -- The code of places, part by part.
-use Rattle.std.proofs.Common.{◌≡◌, ℕ, ◌+◌, ◌<◌, ◌≤◌, true, List, [], ◌∷◌, ◌++◌, map, take, length, get_or, Option, Some, None, refl, sym, ap, ◌∙◌, subst, arith}
+use Rattle.std.proofs.Common.{◌≡◌, ℕ, ◌+◌, ◌<◌, ◌≤◌, true, List, [], ◌∷◌, ◌++◌, map, take, length, get_or, Option, Some, None, refl, sym, ap, ◌∙◌, subst, arith, append-nil}
 use Rattle.std.specs.Prelude.{slice_get}
 use Rattle.std.proofs.lemmas.List.{take_all, map-append}
 use Rattle.lil_base.specs.Words.{word_of}
-use Rattle.lil_resolved.specs.{declared.{resolved.{RPlace.{RPlace, out-RPlace}, RSelector.RSelector}, shapes.{RField.RField, RElements.RElements}}, Kinds.{Kind, least, numbers, Shape, Address, led_to, words, is_there, part_at, offset, shape_by, shape_at, element_of}, Resolved.{Named, OfLevel, variable_at, Designator, Variable, Handed, Held, Field, Element, Follow, Expression, kind_of, shape_of}}
-use Rattle.lil_resolved.specs.{Plain.{by_value, by_place, parameter_variable}, Sound.IsSoundPlace, Views.{root_view, selected, selector_of, place_of, shapes_of, place_is}}
+use Rattle.lil_resolved.specs.{declared.{resolved.{RArgument.{RArgument, TheOpen.RSelector-F, TheFolds.map-RSelector}, RExpr.RExpr, RMember.RMember, RRoot.RRoot, ROperation.ROperation, RPlace.{RPlace, out-RPlace}, RSelector.{RSelector, out-RSelector}}, shapes.{RField.RField, RElements.RElements}}, Kinds.{Kind, least, numbers, Shape, Address, led_to, words, is_there, part_at, offset, shape_by, shape_at, element_of}, Resolved.{Named, OfLevel, variable_at, Argument, Designator, Variable, Handed, Held, Field, Element, Follow, Expression, kind_of, shape_of}, Sizes.{place_strings, expression_strings}}
+use Rattle.lil_resolved.specs.declared.resolved.RArgument.TheOpen as o
+use Rattle.lil_resolved.specs.{Plain.{by_value, by_place, parameter_variable}, Sound.IsSoundPlace, Views.{selected, selector_layer, argument_of, expression_of, member_of, operation_of, root_of, selector_of, place_of, shapes_of, place_is, selector_is}}
 use Rattle.lil_asm.specs.declared.instr.Instr.TheVariants.{Llw, Ixc, Nlt}
 use Rattle.lil_table.specs.Rows.{cut, access_at, IsAt, InstrsAt, Access, OnTop, further, offset_in, address_code, load_code, test_code}
-use Rattle.lil_labels.specs.{Entries.small_at, declared.buffer.HeldRecord.HeldRecord, Tables.{Tables, declared_at, target_by, variable_by, part_by, elements_by, held_by}, Drafts.{Draft, Final, Emits, Doing, DoingAll}, Emitting.{emits_none, emits_then, emits_as, emits_tied, take_next}}
-use Rattle.lil_expr.specs.{Accesses.words_in, Generating.{Value, ReachedAt, Found, Selecting}, Variables.{standing, kept, pointed}}
+use Rattle.lil_labels.specs.{Entries.small_at, declared.buffer.HeldRecord.HeldRecord, Tables.{Tables, declared_at, target_by, variable_by, part_by, elements_by, held_by}, Drafts.{Draft, Final, Adds, Emits, Doing, DoingAll}, Emitting.{emits_none, emits_then, emits_as, adds_as, emits_tied, take_next}}
+use Rattle.lil_expr.specs.{Strings.emits_end, Accesses.words_in, Generating.{Value, ReachedAt, Found, Selecting, selector_part}, Variables.{standing, kept, pointed}}
 use Rattle.lil_expr.proofs.Tables.{whole_there, array_there, row_is, part_within, PartIs, part_is, ElementsAre, elements_are}
 
 -- ---- variables
@@ -74,9 +75,10 @@ words_further : (n : ℕ) (a : Access) → words_in (further n a) ≤ words_in a
 words_further n a = grind arith
 
 pub field_selected : (s : RSelector) (i n : ℕ) (a b : Access) (f : RField) (c : Draft) → ((d : Designator) → selector_of s d ≡ Field d i) → f ≡ part_by (slice_get c.tables.shapes n) i → (words_in a + f.offset ≤ 65535 → b ≡ further f.offset a)
-    → Emits c c (Selecting s a n b f.shape)
+    → Adds (selector_part s) c c (Selecting s a n b f.shape)
 field_selected s i n a b f c form is moved =
-    emits_as c c _ (Selecting s a n b f.shape)
+    adds_as c c _ (sym (ap place_strings (form (Held 0))))
+    (emits_as c c _ (Selecting s a n b f.shape)
     (λ x t start d place.
     subst (λ (e : Designator). Found e b f.shape x start (length c.bytes)) (sym (form d))
     (λ sound there.
@@ -93,7 +95,7 @@ field_selected s i n a b f c form is moved =
       shape = part.shape;
       within = omega (arith, ap words_in goes, words_further f.offset a, part.lies, inside, r.within);
     }))
-    (emits_tied c c _ (emits_none c))
+    (emits_tied c c _ (emits_none c)))
 
 -- ---- elements
 element_reached : (x : Final) (d : Designator) (k j : Kind) (e : Expression) (n w : ℕ) (a : Access) (es : RElements) (p found start middle tested q : ℕ) → es ≡ elements_by (slice_get x.tables.shapes n) → j ≡ kind_of e → w ≡ cut (word_of (least k))
@@ -115,20 +117,22 @@ element_reached x d k j e n w a es p found start middle tested q is typed worded
     }
 
 pub element_selected : (s : RSelector) (k j : Kind) (e : Expression) (n w : ℕ) (a : Access) (es : RElements) (c0 c1 c2 c3 c4 : Draft) → ((d : Designator) → selector_of s d ≡ Element d k e) → es ≡ elements_by (slice_get c0.tables.shapes n) → j ≡ kind_of e → w ≡ cut (word_of (least k))
-    → Emits c0 c1 (DoingAll (address_code a)) → Emits c1 c2 (Value e) → Emits c2 c3 (DoingAll (test_code k j)) → Emits c3 c4 (Doing (λ word. Ixc w es.words)) → Emits c0 c4 (Selecting s a n OnTop es.shape)
+    → Emits c0 c1 (DoingAll (address_code a)) → Adds (expression_strings e) c1 c2 (Value e) → Emits c2 c3 (DoingAll (test_code k j)) → Emits c3 c4 (Doing (λ word. Ixc w es.words)) → Adds (selector_part s) c0 c4 (Selecting s a n OnTop es.shape)
 element_selected s k j e n w a es c0 c1 c2 c3 c4 form is typed worded address value test element =
-    emits_as c0 c4 _ (Selecting s a n OnTop es.shape)
+    adds_as c0 c4 _ (sym (ap place_strings (form (Held 0))))
+    (emits_as c0 c4 _ (Selecting s a n OnTop es.shape)
     (λ x t start d place.
     subst (λ (q : Designator). Found q OnTop es.shape x start (length c4.bytes)) (sym (form d))
     (λ sound there. element_reached x d k j e n w a es start _ _ _ _ _ (is ∙ ap (λ (ts : Tables). elements_by (slice_get ts.shapes n)) (sym t.1)) typed worded sound there
     (place sound.2 (array_there (shape_of x.layout.scope d) there)) t.0.0 t.0.1.0 t.0.1.1.0 t.0.1.1.1))
-    (emits_tied c0 c4 _ (emits_then c0 c1 c4 _ _ address (emits_then c1 c2 c4 _ _ value (emits_then c2 c3 c4 _ _ test element))))
+    (emits_tied c0 c4 _ (emits_then c0 c1 c4 _ _ address (emits_end c1 c2 c4 _ _ value (emits_then c2 c3 c4 _ _ test element)))))
 
 -- ---- what pointers point to
 pub follow_selected : (s : RSelector) (i n m : ℕ) (a : Access) (c0 c1 c2 : Draft) → ((d : Designator) → selector_of s d ≡ Follow d i) → m ≡ target_by (slice_get c0.tables.targets i)
-    → Emits c0 c1 (Doing (λ word. load_code a)) → Emits c1 c2 (Doing (λ word. Nlt)) → Emits c0 c2 (Selecting s a n OnTop m)
+    → Emits c0 c1 (Doing (λ word. load_code a)) → Emits c1 c2 (Doing (λ word. Nlt)) → Adds (selector_part s) c0 c2 (Selecting s a n OnTop m)
 follow_selected s i n m a c0 c1 c2 form is load test =
-    emits_as c0 c2 _ (Selecting s a n OnTop m)
+    adds_as c0 c2 _ (sym (ap place_strings (form (Held 0))))
+    (emits_as c0 c2 _ (Selecting s a n OnTop m)
     (λ x t start d place.
     subst (λ (e : Designator). Found e OnTop m x start (length c2.bytes)) (sym (form d))
     (λ sound there.
@@ -142,25 +146,37 @@ follow_selected s i n m a c0 c1 c2 form is load test =
       shape = lies;
       within = omega (arith, ap words lies, small_at x.tables.shapes m x.described.measured);
     }))
-    (emits_tied c0 c2 _ (emits_then c0 c1 c2 _ _ load test))
+    (emits_tied c0 c2 _ (emits_then c0 c1 c2 _ _ load test)))
 
 -- ---- one behind another
 selected_more : (d : Designator) (fs : List (Designator → Designator)) (f : Designator → Designator) → selected d (fs ++ f ∷ []) ≡ f (selected d fs)
 selected_more d [] f = refl
 selected_more d (g ∷ fs) f = selected_more (g d) fs f
 
-pub next_selector : (ss : List RSelector) (i : ℕ) (root : Designator) (s : RSelector) (a b : Access) (n m : ℕ) (c0 c1 c2 : Draft) → i < length ss → s ≡ get_or ss i s → Emits c0 c1 (Found (selected root (map selector_of (take i ss))) a n)
-    → Emits c1 c2 (Selecting s a n b m) → Emits c0 c2 (Found (selected root (map selector_of (take (i + 1) ss))) b m)
+layer_strings : (y : RSelector-F Argument Expression (Kind → Expression → Expression) Designator (Designator → Designator) (Expression → Expression) Designator) (d : Designator)
+    → place_strings d ++ place_strings (selector_layer y (Held 0)) ≡ place_strings (selector_layer y d)
+layer_strings (o.Field i) d = append-nil (place_strings d)
+layer_strings (o.Index k e) d = refl
+layer_strings (o.Follow n) d = append-nil (place_strings d)
+
+selector_strings : (s : RSelector) (d : Designator) → place_strings d ++ selector_part s ≡ place_strings (selector_of s d)
+selector_strings s d =
+    let y = map-RSelector RArgument RExpr RMember RRoot RSelector ROperation RPlace Argument Expression (Kind → Expression → Expression) Designator (Designator → Designator) (Expression → Expression) Designator argument_of expression_of member_of root_of selector_of operation_of place_of (out-RSelector s) in
+    ap (λ (e : Designator). place_strings d ++ place_strings e) (selector_is s (Held 0)) ∙ layer_strings y d ∙ sym (ap place_strings (selector_is s d))
+
+pub next_selector : (ss : List RSelector) (i : ℕ) (root : Designator) (s : RSelector) (a b : Access) (n m : ℕ) (c0 c1 c2 : Draft) → i < length ss → s ≡ get_or ss i s
+    → Adds (place_strings (selected root (map selector_of (take i ss)))) c0 c1 (Found (selected root (map selector_of (take i ss))) a n)
+    → Adds (selector_part s) c1 c2 (Selecting s a n b m) → Adds (place_strings (selected root (map selector_of (take (i + 1) ss)))) c0 c2 (Found (selected root (map selector_of (take (i + 1) ss))) b m)
 next_selector ss i root s a b n m c0 c1 c2 inside is so_far next =
     let d = selected root (map selector_of (take i ss)) in
     let all : selected root (map selector_of (take (i + 1) ss)) ≡ selector_of s d =
     ap (λ (ss : List RSelector). selected root (map selector_of ss)) (take_next ss i s inside is)
     ∙ (ap (selected root) (map-append selector_of (take i ss) (s ∷ [])) ∙ selected_more root (map selector_of (take i ss)) (selector_of s)) in
-    emits_as c0 c2 _ (Found (selected root (map selector_of (take (i + 1) ss))) b m)
-    (λ x t. subst (λ (d : Designator). Found d b m x (length c0.bytes) (length c2.bytes)) (sym all) (t.1 (length c0.bytes) d t.0))
-    (emits_then c0 c1 c2 _ _ so_far next)
+    subst (λ (d : Designator). Adds (place_strings d) c0 c2 (Found d b m)) (sym all)
+    (adds_as c0 c2 _ (selector_strings s d)
+    (emits_as c0 c2 _ (Found (selector_of s d) b m) (λ x t. t.1 (length c0.bytes) d t.0) (emits_then c0 c1 c2 _ _ so_far next)))
 
-pub all_selectors : (p : RPlace) (ss : List RSelector) (i : ℕ) (a : Access) (n : ℕ) (c0 c1 : Draft) → ss ≡ (out-RPlace p).selectors → length ss ≤ i → Emits c0 c1 (Found (selected (root_view (out-RPlace p).root) (map selector_of (take i ss))) a n)
-    → Emits c0 c1 (Found (place_of p) a n)
+pub all_selectors : (p : RPlace) (ss : List RSelector) (i : ℕ) (a : Access) (n : ℕ) (c0 c1 : Draft) → ss ≡ (out-RPlace p).selectors → length ss ≤ i
+    → Adds (place_strings (selected (root_of (out-RPlace p).root) (map selector_of (take i ss)))) c0 c1 (Found (selected (root_of (out-RPlace p).root) (map selector_of (take i ss))) a n) → Adds (place_strings (place_of p)) c0 c1 (Found (place_of p) a n)
 all_selectors p ss i a n c0 c1 same past =
-    subst (λ (d : Designator). Emits c0 c1 (Found d a n)) (ap (λ (ss : List RSelector). selected (root_view (out-RPlace p).root) (map selector_of ss)) (take_all i ss past ∙ same) ∙ sym (place_is p))
+    subst (λ (d : Designator). Adds (place_strings d) c0 c1 (Found d a n)) (ap (λ (ss : List RSelector). selected (root_of (out-RPlace p).root) (map selector_of ss)) (take_all i ss past ∙ same) ∙ sym (place_is p))

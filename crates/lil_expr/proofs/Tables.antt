@@ -10,13 +10,13 @@ use Rattle.lil_labels.specs.{Entries.{entry, absent}, Tables.{field_by, part_in,
 pub whole_there : (t : Shape) (i : ℕ) → is_there (part_at t (i ∷ [])) ≡ true → is_there t ≡ true
 whole_there Absent i h = h
 whole_there (Address to) i h = h
-whole_there (Opened u) i h = h
+whole_there (Opened copied u) i h = h
 whole_there _ i h = refl
 
 pub array_there : (t : Shape) → is_there (element_of t) ≡ true → is_there t ≡ true
 array_there Absent h = h
 array_there (Address to) h = h
-array_there (Opened u) h = h
+array_there (Opened copied u) h = h
 array_there _ h = refl
 
 pub row_is : (t : Shape) (n : ℕ) → is_there (element_of t) ≡ true → count_of t ≡ n → t ≡ Row n (element_of t)

@@ -1,11 +1,24 @@
 -- What the code means that the generator of expressions adds.
-use Rattle.std.specs.Prelude.{◌≡◌, ℕ, ◌+◌, ◌≤◌, true, Option, Some, None}
+use Rattle.std.specs.Prelude.{◌≡◌, ℕ, ◌+◌, ◌≤◌, true, List, Option, Some, None}
 use Rattle.lil_base.specs.declared.operator.TwoOp.{TwoOp, TheVariants.{Or, And}}
-use Rattle.lil_resolved.specs.{declared.resolved.{ROperation.ROperation, RSelector.RSelector, RMember.RMember}, Kinds.{Kind, words, is_there, shape_at}, Resolved.{Designator, Expression, kind_of, shape_of}, Sound.{IsSoundPlace, IsSoundExpression, IsSoundStored}, Views.{operation_of, selector_of, member_of, shapes_of}}
+use Rattle.lil_resolved.specs.{declared.resolved.{RArgument.RArgument, ROperation.{ROperation, out-ROperation}, RSelector.RSelector, RMember.RMember}, Kinds.{Kind, OfSet, words, is_there, shape_at}, Resolved.{Designator, Held, Expression, kind_of, shape_of}, Sizes.{place_strings, expression_strings, argument_strings}, Sound.{IsSoundPlace, IsSoundExpression, IsSoundStored}, Views.{empty_set, argument_of, expression_of, operation_of, selector_of, member_of, shapes_of}}
 use Rattle.lil_table.specs.Rows.{InstrsAt, test_code, Access, access_of, address_code, PlaceAt, ExpressionAt, ValueRow}
 use Rattle.lil_labels.specs.{declared.buffer.Aim.Aim, Drafts.{Final, Meaning}}
 use Rattle.lil_labels.specs.declared.buffer.Aim.TheVariants as aim
 use Rattle.lil_expr.specs.Accesses.{words_in}
+
+-- the words of the strings of a part of a place, a member of a set, an operation and an argument
+abbrev pub selector_part : RSelector → List ℕ
+selector_part s = place_strings (selector_of s (Held 0))
+
+abbrev pub member_part : RMember → List ℕ
+member_part m = expression_strings (member_of m OfSet empty_set)
+
+abbrev pub operation_part : ROperation → List ℕ
+operation_part o = expression_strings (expression_of (out-ROperation o).operand)
+
+abbrev pub argument_part : RArgument → List ℕ
+argument_part g = argument_strings (argument_of g)
 
 -- a sound expression has its code
 abbrev pub Value : Expression → Meaning

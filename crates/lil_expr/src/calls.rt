@@ -1,15 +1,16 @@
 //! The code of calls, and of arguments.
 
-ghost use Rattle.std.specs.Prelude.{IfOk, OnOk};
-ghost use Rattle.lil_resolved.specs.Views.{argument_of, arguments_of, place_of};
-ghost use Rattle.lil_labels.specs.Drafts.{Emits};
-ghost use Rattle.lil_expr.specs.Calling.{Blocked, Called, Given, Pushed, Single};
+ghost use Rattle.std.specs.Prelude.{Bool, IfOk, OnOk};
+ghost use Rattle.lil_resolved.specs.{Resolved.OfOpened, Sizes.{argument_strings, arguments_strings, place_strings}, Views.{argument_of, arguments_of, place_of}};
+ghost use Rattle.lil_labels.specs.Drafts.{Adds, Emits};
+ghost use Rattle.lil_expr.specs.Calling.{Argued, Blocked, Called, Given, Pushed};
 
 use crate::expressions::{emit_address_of, emit_tested};
+use crate::opened::{emit_second, frame_load};
 use lil_asm::Instr;
 use lil_base::Memory;
 use lil_labels::CodeBuffer;
-use lil_resolved::{RArgument, RPlace};
+use lil_resolved::{RArgument, RNamed, RPlace};
 
 /// Appends a call of a procedure that is declared so many levels out: the mark, the arguments, each of which goes to the
 /// frame that the mark begins, and the call itself. A frame that more words go to than a store has is never entered.
@@ -20,7 +21,7 @@ pub fn emit_call(
     levels: u8,
     given: &[RArgument],
 ) -> Result<(), Memory>
-    ensures { OnOk result (Emits code.old code.new (Called procedure levels (arguments_of given.now))) }
+    ensures { OnOk result (Adds (arguments_strings (arguments_of given.now)) code.old code.new (Called procedure levels (arguments_of given.now))) }
 {
     code.put(Instr::Mrk(levels))?;
     let words = emit_given(code, given)?;
@@ -30,7 +31,7 @@ pub fn emit_call(
 /// Appends the code of the arguments of a call, and says how many words they take in the frame that it begins, up to 65,535.
 #[cycle(emitting)]
 fn emit_given(code: &mut CodeBuffer<'_>, given: &[RArgument]) -> Result<u16, Memory>
-    ensures { IfOk result (λ words. Emits code.old code.new (Given words (arguments_of given.now))) }
+    ensures { IfOk result (λ words. Adds (arguments_strings (arguments_of given.now)) code.old code.new (Given words (arguments_of given.now))) }
 {
     let mut words: u16 = 0;
     for argument in given {
@@ -39,28 +40,36 @@ fn emit_given(code: &mut CodeBuffer<'_>, given: &[RArgument]) -> Result<u16, Mem
     Ok(words)
 }
 
-/// Appends the code of an argument, whose word goes from the expression stack to the frame that a call begins, or all that lies
+/// Appends the code of an argument, whose words go from the expression stack to the frame that a call begins, or all that lies
 /// at a place, and says how many words it takes there.
 #[cycle(emitting)]
 fn emit_pushed(code: &mut CodeBuffer<'_>, argument: &RArgument) -> Result<u16, Memory>
-    ensures { IfOk result (λ words. Emits code.old code.new (Pushed words (argument_of argument.now))) }
+    ensures { IfOk result (λ words. Adds (argument_strings (argument_of argument.now)) code.old code.new (Pushed words (argument_of argument.now))) }
 {
     match argument {
         RArgument::Value(_, _) | RArgument::Place(_) => {
-            emit_single(code, argument)?;
+            emit_argument(code, argument, true)?;
             code.put(Instr::Psh)?;
             Ok(1)
         }
         RArgument::All(place) => emit_block(code, place),
-        // no call has one of these
-        RArgument::Array(_, _) | RArgument::Text(_) => Ok(0),
+        RArgument::Array(_, _, _) | RArgument::Text(_) | RArgument::Opened(_, _, _) => {
+            emit_argument(code, argument, true)?;
+            code.put(Instr::Psh)?;
+            Ok(2)
+        }
     }
 }
 
-/// Appends the code of an argument that has one word on the expression stack: a value and its test, or the address of a place.
+/// Appends the code of an argument of a call or a request: a value and its test, the address of a place, or for an open array
+/// the address of its first element and the number of the last one.
 #[cycle(emitting)]
-pub fn emit_single(code: &mut CodeBuffer<'_>, argument: &RArgument) -> Result<(), Memory>
-    ensures { OnOk result (Emits code.old code.new (Single (argument_of argument.now))) }
+pub fn emit_argument(
+    code: &mut CodeBuffer<'_>,
+    argument: &RArgument,
+    calls: bool,
+) -> Result<(), Memory>
+    ensures { OnOk result (Adds (argument_strings (argument_of argument.now)) code.old code.new (Argued calls (argument_of argument.now))) }
 {
     match argument {
         RArgument::Value(kind, value) => emit_tested(code, *kind, value),
@@ -68,15 +77,43 @@ pub fn emit_single(code: &mut CodeBuffer<'_>, argument: &RArgument) -> Result<()
             emit_address_of(code, place)?;
             Ok(())
         }
-        // these have two
-        RArgument::Array(_, _) | RArgument::Text(_) => Ok(()),
+        RArgument::Array(_, place, high) => {
+            emit_address_of(code, place)?;
+            emit_second(code, calls, Instr::Liw(*high))
+        }
+        RArgument::Text(text) => {
+            let text = text.get();
+            let offset = code.string(text.as_slice())?;
+            let high = (text.len().saturating_sub(1) % 65_536) as u16;
+            code.put(Instr::Lag(offset))?;
+            emit_second(code, calls, Instr::Liw(high))
+        }
+        RArgument::Opened(_, levels, number) => emit_handed_on(code, *levels, *number, calls),
     }
+}
+
+/// Appends the code of an open array that is a parameter and goes to another one.
+fn emit_handed_on(
+    code: &mut CodeBuffer<'_>,
+    levels: u8,
+    number: usize,
+    calls: bool,
+) -> Result<(), Memory>
+    ensures { OnOk result ((copied : Bool) → Emits code.old code.new (Argued calls (OfOpened copied levels number))) }
+{
+    let opened = code.variable(RNamed::Level(levels, number));
+    code.put(frame_load(levels, opened.offset))?;
+    emit_second(
+        code,
+        calls,
+        frame_load(levels, opened.offset.saturating_add(1)),
+    )
 }
 
 /// Appends what brings all that lies at a place to the frame that a call begins, and says how many words it takes.
 #[cycle(emitting)]
 fn emit_block(code: &mut CodeBuffer<'_>, place: &RPlace) -> Result<u16, Memory>
-    ensures { IfOk result (λ words. Emits code.old code.new (Blocked words (place_of place.now))) }
+    ensures { IfOk result (λ words. Adds (place_strings (place_of place.now)) code.old code.new (Blocked words (place_of place.now))) }
 {
     let shape = emit_address_of(code, place)?;
     let words = code.words(shape);

@@ -1,28 +1,30 @@
 //! The code of expressions and of places.
 
-ghost use Rattle.std.specs.Prelude.{◌≡◌, IfOk, OnOk};
+ghost use Rattle.std.specs.{Prelude.{◌≡◌, IfOk, OnOk}, List.flat_map};
 ghost use Rattle.lil_base.specs.Words as words;
-ghost use Rattle.lil_resolved.specs.{Kinds.OfWhole, Views.{base_view, kind_view, expression_of, place_of}};
+ghost use Rattle.lil_resolved.specs.{Kinds.OfWhole, Sizes.{expression_strings, place_strings}, Views.{base_view, kind_view, expression_of, place_of}};
 ghost use Rattle.lil_table.specs.Rows.{two_code, one_code, number_code, set_code};
-ghost use Rattle.lil_labels.specs.Drafts.{DoingAll, Each, Emits};
-ghost use Rattle.lil_expr.specs.{Accesses.access_view, Generating.{Addressed, Found, Selecting, Value, Tested, Stored, Joining, Operating, aim_of}};
+ghost use Rattle.lil_labels.specs.Drafts.{DoingAll, Each, Adds, Emits};
+ghost use Rattle.lil_expr.specs.{Accesses.access_view, Generating.{Addressed, Found, Selecting, Value, Tested, Stored, Joining, Operating, aim_of, selector_part, member_part, operation_part}};
 
 use crate::calls::emit_call;
 use crate::functions::emit_function;
 use crate::numbers::constant_word;
-use crate::places::{Access, Reached, emit_address, emit_load, emit_root, further};
+use crate::opened::frame_load;
+use crate::places::{Access, Reached, emit_address, emit_load, further};
 use crate::ranges::{emit_test, least_word};
+use crate::roots::emit_root;
 use lil_asm::Instr;
 use lil_base::Memory;
 use lil_labels::{Aim, CodeBuffer};
 use lil_resolved::{
-    OneOp, RBase, RExpr, RKind, RMember, ROperation, RPlace, RSelector, TwoOp, base,
+    OneOp, RBase, RExpr, RKind, RMember, RNamed, ROperation, RPlace, RSelector, TwoOp, base,
 };
 
 /// Appends the code that leaves an expression's value on the expression stack.
 #[cycle(emitting)]
 pub fn emit_expression(code: &mut CodeBuffer<'_>, e: &RExpr) -> Result<(), Memory>
-    ensures { OnOk result (Emits code.old code.new (Value (expression_of e.now))) }
+    ensures { OnOk result (Adds (expression_strings (expression_of e.now)) code.old code.new (Value (expression_of e.now))) }
 {
     match e {
         RExpr::Constant(base, number) => code.put(Instr::Liw(constant_word(*base, *number))),
@@ -52,16 +54,20 @@ pub fn emit_expression(code: &mut CodeBuffer<'_>, e: &RExpr) -> Result<(), Memor
             emit_call(code, *procedure, *levels, given.as_slice())?;
             code.put(Instr::Rst(1))
         }
+        RExpr::High(levels, number) => {
+            let opened = code.variable(RNamed::Level(*levels, *number));
+            code.put(frame_load(*levels, opened.offset.saturating_add(1)))
+        }
     }
 }
 
 /// Appends the code of a place, and says how code then has it.
 #[cycle(emitting)]
 pub fn emit_place(code: &mut CodeBuffer<'_>, of: &RPlace) -> Result<Reached, Memory>
-    ensures { IfOk result (λ at. Emits code.old code.new (Found (place_of of.now) (access_view at.access) at.shape)) }
+    ensures { IfOk result (λ at. Adds (place_strings (place_of of.now)) code.old code.new (Found (place_of of.now) (access_view at.access) at.shape)) }
 {
     let selectors = of.selectors.as_slice();
-    let mut at = emit_root(code, of.root)?;
+    let mut at = emit_root(code, &of.root)?;
     for selector in selectors {
         at = emit_selector(code, selector, at)?;
     }
@@ -71,7 +77,7 @@ pub fn emit_place(code: &mut CodeBuffer<'_>, of: &RPlace) -> Result<Reached, Mem
 /// Appends the code of a place and of its address, and gives a number of its shape.
 #[cycle(emitting)]
 pub fn emit_address_of(code: &mut CodeBuffer<'_>, of: &RPlace) -> Result<usize, Memory>
-    ensures { IfOk result (λ shape. Emits code.old code.new (Addressed (place_of of.now) shape)) }
+    ensures { IfOk result (λ shape. Adds (place_strings (place_of of.now)) code.old code.new (Addressed (place_of of.now) shape)) }
 {
     let at = emit_place(code, of)?;
     emit_address(code, at.access)?;
@@ -87,7 +93,7 @@ fn emit_selector(
     selector: &RSelector,
     at: Reached,
 ) -> Result<Reached, Memory>
-    ensures { IfOk result (λ part. Emits code.old code.new (Selecting selector.now (access_view at.access) at.shape (access_view part.access) part.shape)) }
+    ensures { IfOk result (λ part. Adds (selector_part selector.now) code.old code.new (Selecting selector.now (access_view at.access) at.shape (access_view part.access) part.shape)) }
 {
     match selector {
         RSelector::Field(number) => {
@@ -125,7 +131,7 @@ fn emit_selector(
 /// stack before it.
 #[cycle(emitting)]
 fn emit_members(code: &mut CodeBuffer<'_>, kind: RKind, members: &[RMember]) -> Result<(), Memory>
-    ensures { OnOk result (Emits code.old code.new (Each (Joining (kind_view kind)) members.now)) }
+    ensures { OnOk result (Adds (flat_map member_part members.now) code.old code.new (Each (Joining (kind_view kind)) members.now)) }
 {
     for member in members {
         emit_member(code, kind, member)?;
@@ -137,7 +143,7 @@ fn emit_members(code: &mut CodeBuffer<'_>, kind: RKind, members: &[RMember]) -> 
 /// one to the other into the set. A single number is both.
 #[cycle(emitting)]
 fn emit_member(code: &mut CodeBuffer<'_>, kind: RKind, member: &RMember) -> Result<(), Memory>
-    ensures { OnOk result (Emits code.old code.new (Joining (kind_view kind) member.now)) }
+    ensures { OnOk result (Adds (member_part member.now) code.old code.new (Joining (kind_view kind) member.now)) }
 {
     match member {
         RMember::Single(value) => {
@@ -155,8 +161,8 @@ fn emit_member(code: &mut CodeBuffer<'_>, kind: RKind, member: &RMember) -> Resu
 /// Appends the code of a value where one of a kind is wanted, and its test.
 #[cycle(emitting)]
 pub fn emit_tested(code: &mut CodeBuffer<'_>, kind: RKind, value: &RExpr) -> Result<(), Memory>
-    ensures tested { OnOk result (Emits code.old code.new (Tested (kind_view kind) (expression_of value.now))) }
-    ensures stored { OnOk result (Emits code.old code.new (Stored (expression_of value.now) (kind_view kind))) }
+    ensures tested { OnOk result (Adds (expression_strings (expression_of value.now)) code.old code.new (Tested (kind_view kind) (expression_of value.now))) }
+    ensures stored { OnOk result (Adds (expression_strings (expression_of value.now)) code.old code.new (Stored (expression_of value.now) (kind_view kind))) }
 {
     emit_expression(code, value)?;
     emit_test(code, kind, base(value))?;
@@ -166,7 +172,7 @@ pub fn emit_tested(code: &mut CodeBuffer<'_>, kind: RKind, value: &RExpr) -> Res
 /// Appends the code of operations, each on the value that stands on the expression stack before it.
 #[cycle(emitting)]
 fn emit_operations(code: &mut CodeBuffer<'_>, operations: &[ROperation]) -> Result<(), Memory>
-    ensures { OnOk result (Emits code.old code.new (Each Operating operations.now)) }
+    ensures { OnOk result (Adds (flat_map operation_part operations.now) code.old code.new (Each Operating operations.now)) }
 {
     for operation in operations {
         emit_operation(code, operation)?;
@@ -178,7 +184,7 @@ fn emit_operations(code: &mut CodeBuffer<'_>, operations: &[ROperation]) -> Resu
 /// it may decide.
 #[cycle(emitting)]
 fn emit_operation(code: &mut CodeBuffer<'_>, operation: &ROperation) -> Result<(), Memory>
-    ensures { OnOk result (Emits code.old code.new (Operating operation.now)) }
+    ensures { OnOk result (Adds (operation_part operation.now) code.old code.new (Operating operation.now)) }
 {
     match jump_over(operation.operator) {
         Some(aim) => {

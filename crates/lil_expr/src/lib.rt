@@ -5,10 +5,12 @@ mod calls;
 mod expressions;
 mod functions;
 mod numbers;
+mod opened;
 mod places;
 mod ranges;
+mod roots;
 
-pub use calls::{emit_call, emit_single};
+pub use calls::{emit_argument, emit_call};
 pub use expressions::{emit_address_of, emit_expression, emit_place, emit_tested};
 pub use numbers::word_of_number;
 pub use places::{Access, Reached, variable_access};

@@ -1,16 +1,16 @@
 //! How code has places, and what brings their addresses and their words.
 
-ghost use Rattle.std.specs.Prelude.{◌≡◌, ◌+◌, ◌≤◌, IfOk, OnOk};
-ghost use Rattle.lil_resolved.specs.Views.{named_view, root_view};
+ghost use Rattle.std.specs.Prelude.{◌≡◌, ◌+◌, ◌≤◌, OnOk};
+ghost use Rattle.lil_resolved.specs.Views.{named_view};
 ghost use Rattle.lil_table.specs.Rows as rows;
 ghost use Rattle.lil_table.specs.Rows.{address_code, load_code};
 ghost use Rattle.lil_labels.specs.Drafts.{Doing, DoingAll, Emits};
-ghost use Rattle.lil_expr.specs.{Accesses.{access_view, words_in}, Generating.Found};
+ghost use Rattle.lil_expr.specs.Accesses.{access_view, words_in};
 
 use lil_asm::Instr;
 use lil_base::Memory;
 use lil_labels::CodeBuffer;
-use lil_resolved::{RNamed, RRoot};
+use lil_resolved::RNamed;
 
 /// How code has a place: so many words into the data of the module, or into the frame of the procedure so many levels out,
 /// of which the one at hand is 0; by its address on the expression stack, or so many words behind that address.
@@ -36,39 +36,6 @@ pub fn variable_access(named: RNamed, offset: u16) -> Access
     match named {
         RNamed::Module(_) => Access::InData(offset),
         RNamed::Level(levels, _) => Access::InFrame(levels, offset),
-    }
-}
-
-/// Appends the code of a root, and says how code then has it. A variable takes none, and what was handed in for a VAR parameter
-/// and the record of a WITH the load of its address.
-pub(crate) fn emit_root(code: &mut CodeBuffer<'_>, root: RRoot) -> Result<Reached, Memory>
-    ensures { IfOk result (λ at. Emits code.old code.new (Found (root_view root) (access_view at.access) at.shape)) }
-{
-    match root {
-        RRoot::Variable(named) => {
-            let variable = code.variable(named);
-            Ok(Reached {
-                access: variable_access(named, variable.offset),
-                shape: variable.shape,
-            })
-        }
-        RRoot::Handed(levels, number) => {
-            let named = RNamed::Level(levels, number);
-            let variable = code.variable(named);
-            emit_load(code, variable_access(named, variable.offset))?;
-            Ok(Reached {
-                access: Access::OnTop,
-                shape: variable.shape,
-            })
-        }
-        RRoot::Held(number) => {
-            let held = code.held(number);
-            code.put(Instr::Llw(held.word))?;
-            Ok(Reached {
-                access: Access::OnTop,
-                shape: held.shape,
-            })
-        }
     }
 }
 

@@ -3,14 +3,14 @@ use Rattle.std.proofs.Common.{◌≡◌, ℕ, zero, suc, ◌+◌, ◌<◌, Bool,
 use Rattle.std.specs.{Prelude.{◌-◌, option_and_then}, Option.option_map}
 use Rattle.std.proofs.lemmas.{Option.{none-some, slice_get_within, slice_get-map}, List.length_push}
 use Rattle.lil_types.specs.{Types.Table, declared.table.Parameter.Parameter}
-use Rattle.lil_declared.specs.declared.declared.{Mode.TheVariants.Place, RVar.RVar}
+use Rattle.lil_declared.specs.declared.declared.RVar.{RVar}
 use Rattle.lil_kinds.specs.{Forms.{parameters, result}, declared.found.Located.Located}
 use Rattle.lil_resolved.specs.{Resolved.{Named, OfModule, OfLevel, Designator, variable_at, shape_of}, Kinds.{Kind, Shape, Outline, Scope, MayCall, procedure_by, parameters_of, result_of, locals_of, parameters_at, locals_at, is_there, outermost, with_held}, Sound.{IsSoundPlace, IsSoundExpression}, Views.{kind_view, named_view, expression_of, place_of}, declared.resolved.{RExpr.RExpr, RNamed.RNamed, RPlace.RPlace}}
 use Rattle.lil_resolved.specs.declared.resolved.RNamed.TheVariants as named
 use Rattle.lil_scope.specs.Names.{locals_by}
 use Rattle.lil_shapes.specs.{Pointers.targets, Shaping.{all_some, held_in, lying, variables_by}, ListLaws.{AllFine, some_at}, ShapeSound.{mapped, at_end, within_is, HasShape}, TargetSound.all_known}
 use Rattle.lil_shapes.specs.Shaping as shaping
-use Rattle.lil_forms.specs.{Properties.Reach, Values.returned, Variables.{locals_out, passing_by, seen_in}}
+use Rattle.lil_forms.specs.{Properties.Reach, Values.returned, Variables.{HoldsAddress, locals_out, passing_by, seen_in}}
 
 -- ---- tests of two conditions, and of an order
 pub both_left : (a b : Bool) → (a && b) ≡ true → a ≡ true
@@ -41,7 +41,7 @@ first_some (Some a) os xs h = let rest = mapped (λ rest. a ∷ rest) (all_some 
 -- ---- calls
 -- what the variable for a parameter holds, by the shapes of types
 abbrev pub parameter_shape : List Shape → Parameter → Option Shape
-parameter_shape shapes p = held_in shapes (passing_by p.by_place) p.sort
+parameter_shape shapes p = held_in shapes (passing_by p) p.sort
 
 -- a procedure of this procedure type may be called, by its number from 1. Its first variables hold what those for its parameters do, and it
 -- returns what its type says
@@ -66,14 +66,14 @@ pub record Fits (t : Table) (vs : RNamed → Option RVar) (around : List ℕ) (R
   pub types : shaping.shapes t ≡ Some shapes
   pub targets : ts.targets ≡ targets t shapes
   pub variables : (n : RNamed) (v : RVar) → vs n ≡ Some v → (x : Shape) × (lying shapes v ≡ Some x) × (variable_at ts (named_view n) ≡ Some x)
-  pub handed : (l x : ℕ) (v : RVar) → vs (named.Level l x) ≡ Some v → v.mode ≡ Place → slice_get (parameters_at ts l) x ≡ slice_get (locals_at ts l) x
+  pub handed : (l x : ℕ) (v : RVar) → vs (named.Level l x) ≡ Some v → HoldsAddress v.mode → slice_get (parameters_at ts l) x ≡ slice_get (locals_at ts l) x
   pub held : AreHeld shapes around ts.held
   pub calls : Calls t R ts
 
 -- what the variables of a procedure hold, and which of them are parameters
 pub record IsOutlined (shapes : List Shape) (vs : List RVar) (o : Outline) : Type 0 where
   pub locals : all_some (map (lying shapes) vs) ≡ Some o.locals
-  pub handed : (x : ℕ) (v : RVar) → slice_get vs x ≡ Some v → v.mode ≡ Place → x < o.parameters
+  pub handed : (x : ℕ) (v : RVar) → slice_get vs x ≡ Some v → HoldsAddress v.mode → x < o.parameters
 
 -- the same of all procedures, by their numbers
 abbrev pub AreOutlined : List Shape → List (List RVar) → List Outline → Type 0
@@ -108,14 +108,14 @@ module _ (t : Table) (vs : List RVar) (ls : List (List RVar)) (shapes lies : Lis
       let one = some_at (lying shapes) ws o.0.locals x v o.2.locals is in
       (one.0, one.1, ap (λ o. slice_get (locals_of o) x) (outline_at l p at o.0 o.1) ∙ one.2)
 
-  local_handed : (l x p : ℕ) (v : RVar) (o : Option (List RVar)) → slice_get chain l ≡ Some p → slice_get ls p ≡ o → slice_get (locals_by o) x ≡ Some v → v.mode ≡ Place → slice_get (parameters_at around_none l) x ≡ slice_get (locals_at around_none l) x
+  local_handed : (l x p : ℕ) (v : RVar) (o : Option (List RVar)) → slice_get chain l ≡ Some p → slice_get ls p ≡ o → slice_get (locals_by o) x ≡ Some v → HoldsAddress v.mode → slice_get (parameters_at around_none l) x ≡ slice_get (locals_at around_none l) x
   local_handed l x p v None at there is mode = absurd (none-some v is)
   local_handed l x p v (Some ws) at there is mode =
       let o = outlined p ws there in
       let here = outline_at l p at o.0 o.1 in
       ap (λ o. slice_get (parameters_of o) x) here ∙ taken_same o.0.parameters x o.0.locals (o.2.handed x v is mode) ∙ sym (ap (λ o. slice_get (locals_of o) x) here)
 
-  level_handed : (l x : ℕ) (v : RVar) (o : Option ℕ) → slice_get chain l ≡ o → slice_get (locals_out ls o) x ≡ Some v → v.mode ≡ Place → slice_get (parameters_at around_none l) x ≡ slice_get (locals_at around_none l) x
+  level_handed : (l x : ℕ) (v : RVar) (o : Option ℕ) → slice_get chain l ≡ o → slice_get (locals_out ls o) x ≡ Some v → HoldsAddress v.mode → slice_get (parameters_at around_none l) x ≡ slice_get (locals_at around_none l) x
   level_handed l x v None at is mode = absurd (none-some v is)
   level_handed l x v (Some p) at is mode = local_handed l x p v (slice_get ls p) at refl is mode
 

@@ -1,34 +1,52 @@
 -- Soundness, in what lies in the variables that are seen and in the records of the WITHs around.
-use Rattle.std.proofs.Common.{◌≡◌, ℕ, ◌≤◌, ℤ, true, ◌+◌, false, List, [], ◌∷◌, ◌++◌, map, length, slice_get, Option, None, Some, IfSome, inl, inr, refl, sym, ap, ◌∙◌, subst}
-use Rattle.std.specs.Prelude.{◌-◌, ◌==◌, option_and_then}
+use Rattle.std.proofs.Common.{◌≡◌, ℕ, suc, ◌≤◌, ℤ, Bool, true, ◌+◌, false, List, [], ◌∷◌, ◌++◌, map, length, slice_get, Option, None, Some, IfSome, inl, inr, refl, sym, ap, ◌∙◌, subst}
+use Rattle.std.specs.Prelude.{◌-◌, option_and_then}
 use Rattle.std.specs.Option.{option_map}
 use Rattle.std.proofs.lemmas.Option.{none-some, cond_some, same_Some}
+use Rattle.lil_base.specs.Words.{Cardinal}
 use Rattle.lil_base.specs.declared.operator.{OneOp.OneOp, TwoOp.{TwoOp, TheVariants.{Or, And}}}
 use Rattle.lil_types.specs.{Types.{Table, char, base}, declared.table.Parameter.Parameter}
+use Rattle.lil_declared.specs.Modes.{mode_of}
 use Rattle.lil_declared.specs.declared.declared.{Mode.Mode, RVar.RVar}
 use Rattle.lil_declared.specs.declared.declared.Mode.TheVariants as mode
-use Rattle.lil_kinds.specs.{Forms.{parameters, result}, declared.found.Located.Located}
-use Rattle.lil_resolved.specs.{Bases.own_base, Chains.set_kind, Kinds.{Kind, OfCharacter, OfSet, is_base, Shape, Address, Scope, Word, Row, element_of as elements, count_of, is_there, led_to, parameters_at, parameters_of, procedure_by, shape_by, shape_at}, Sizes.place_depth, Resolved.{variable_at, shape_of, Argument, ByValue, OfPlace, OfAll, Expression, Two, kind_of, right_kind}}
-use Rattle.lil_resolved.specs.Views.{by_value_is, of_place_is, of_all_is, invoke_is, argument_of, arguments_of, field_is, index_is, follow_is, one_is, apply_is, chain_is, set_is, single_is, span_is, constant_is, taken_is, kind_view, held_by, named_view, base_view, expression_of, place_of, two_of, chained, with_members, empty_set, function_of, member_of, operation_of}
-use Rattle.lil_resolved.specs.declared.resolved.{RArgument.RArgument, RBase.RBase, RExpr.RExpr, RFunction.RFunction, RKind.RKind, RMember.RMember, RNamed.RNamed, ROperation.ROperation, RPassing.RPassing, RRoot.RRoot}
+use Rattle.lil_kinds.specs.{Forms.{parameters, result}, declared.found.{Form.Form, Located.Located, OpenArray.OpenArray}}
+use Rattle.lil_kinds.specs.declared.found.Form.TheVariants as form
+use Rattle.lil_resolved.specs.{Bases.own_base, Chains.set_kind, Kinds.{Kind, OfWhole, OfCharacter, OfSet, is_base, Shape, Address, Opened, along, Scope, Word, Row, element_of as elements, count_of, is_there, led_to, parameters_at, parameters_of, procedure_by, shape_by, shape_at}, Sizes.place_depth, Resolved.{variable_at, shape_of, Argument, ByValue, OfPlace, OfAll, OfArray, OfText, OfOpened, Expression, Two, kind_of, right_kind}}
+use Rattle.lil_resolved.specs.Views.{by_value_is, of_place_is, of_all_is, of_array_is, of_text_is, of_opened_is, is_copied, variable_is, handed_is, along_is, held_is, high_is, invoke_is, argument_of, arguments_of, field_is, index_is, follow_is, one_is, apply_is, chain_is, set_is, single_is, span_is, constant_is, taken_is, kind_view, held_by, named_view, base_view, expression_of, place_of, two_of, chained, with_members, empty_set, function_of, member_of, operation_of}
+use Rattle.lil_resolved.specs.declared.resolved.{RArgument.RArgument, RBase.RBase, RExpr.RExpr, RFunction.RFunction, RKind.RKind, RMember.RMember, RNamed.RNamed, ROpening.{ROpening, TheVariants.{Copied, Lent}}, ROperation.ROperation, RPassing.RPassing, RRoot.RRoot}
 use Rattle.lil_resolved.specs.declared.resolved.RNamed.TheVariants as named
 use Rattle.lil_resolved.specs.declared.resolved.RPassing.TheVariants as passing
 use Rattle.lil_resolved.specs.Resolved as resolved
 use Rattle.lil_resolved.specs.Sound as sound
-use Rattle.lil_resolved.specs.Sound.{IsScalar, IsSoundTarget, IsSoundExpression, IsSoundArgument, AreSoundArguments, IsSingle, AreSingle, parameter_of, parameters_given}
+use Rattle.lil_resolved.specs.Sound.{IsScalar, IsSoundTarget, IsSoundExpression, IsSoundOpened, IsSoundArgument, AreSoundArguments, parameter_of, parameters_given}
 use Rattle.lil_resolved.specs.declared.resolved.RBase.TheVariants as b
 use Rattle.lil_resolved.specs.declared.resolved.RExpr.TheVariants as e
 use Rattle.lil_resolved.specs.declared.resolved.RMember.TheVariants as m
 use Rattle.lil_resolved.specs.declared.resolved.RRoot.TheVariants as root
 use Rattle.lil_resolved.specs.declared.resolved.RSelector.TheVariants as part
-use Rattle.lil_shapes.specs.{declared.{composites.ArrayParts.ArrayParts, pointers.Target.Target}, Bases.{plain, kind_at, numbers_of, characters_in, characters_at, field_at, array_at, composite_at}, Pointers.target_at, Shaping.{all_some, there, passing_of, held_as, held_in}, BaseLaws.{if_some, same_sort, base_words, kind_base, literal_sound}}
+use Rattle.lil_shapes.specs.{declared.{composites.ArrayParts.ArrayParts, pointers.Target.Target}, Bases.{plain, kind_at, numbers_of, elements_in, elements_at, field_at, array_at, composite_at}, Pointers.target_at, Shaping.{all_some, there, passing_of, held_in}, BaseLaws.{base_words, kind_base, literal_sound}}
 use Rattle.lil_shapes.specs.{ShapeSound.{mapped, field_shaped, element_shaped, composite_shaped, word_shaped}, TargetSound.{PointsTo, all_known, target_shaped}, Operators.{takes_two, is_a_truth, has_number}}
-use Rattle.lil_forms.specs.{Places.{root_of, at_root, part_of}, Values.{operation, returned}, Parts.{placed_is, further_is, chained_more, members_more}, Scopes.{Fits, IsPlaced, placed_as, Runs, has_shape, first_some, parameter_shape}, Properties.{Reach, IsValueFor, IsPlaceFor, IsWholeFor, IsHanded, AreHanded, Property, value_kind}, Variables.passing_by}
+use Rattle.lil_forms.specs.{Places.{at_root, part_of, located_in, variable_form}, Values.{operation, returned}, Parts.{placed_is, further_is, chained_more, members_more}, Scopes.{Fits, IsPlaced, placed_as, Runs, has_shape, first_some, parameter_shape}, Properties.{Reach, IsValueFor, IsPlaceFor, IsWholeFor, IsArrayFor, IsTextFor, IsOpenFor, IsHanded, AreHanded, Property, value_kind}, Statements.opening, Variables.{HoldsAddress, passing_by}}
 
--- elements that are words are those of an array
-row_is : (x : Shape) (k : Kind) → elements x ≡ Word k → x ≡ Row (count_of x) (Word k)
-row_is (Row n y) k h = ap (Row n) h
-row_is _ k h = cc
+-- elements that are there are those of an array
+row_is : (x : Shape) → is_there (elements x) ≡ true → x ≡ Row (count_of x) (elements x)
+row_is (Row n y) h = refl
+row_is _ h = absurd (cc)
+
+-- what forms are
+same_place : (q p : Located) → form.Located q ≡ form.Located p → q ≡ p
+same_place q p e = same_Some q p (ap located_in e)
+
+abbrev pub open_in : Form → Option OpenArray
+open_in (form.Open a) = Some a
+open_in _ = None
+
+same_open : (a c : OpenArray) → form.Open a ≡ form.Open c → a ≡ c
+same_open a c e = same_Some a c (ap open_in e)
+
+open_passing : (by_place : Bool) → passing_of (mode_of by_place true) ≡ passing.Open (opening by_place)
+open_passing false = refl
+open_passing true = refl
 
 pub there_is : (o : Option Shape) (s : Shape) → there o ≡ Some s → (o ≡ Some s) × (is_there s ≡ true)
 there_is None s h = absurd (none-some s h)
@@ -38,45 +56,76 @@ module _ {t : Table} {vs : RNamed → Option RVar} {around : List ℕ} {R : Reac
   abbrev pub Lies : Located → Type 0
   Lies p = IsPlaced fits.shapes ts p
 
+  -- an open array that is a parameter has elements of its type
+  pub record Opens (a : OpenArray) : Type 0 where
+    pub shape : Shape
+    pub at : slice_get (parameters_at ts a.levels) a.number ≡ Some (Opened (is_copied a.opening) shape)
+    pub element : slice_get fits.shapes a.sort ≡ Some shape
+    pub there : is_there shape ≡ true
+
+  abbrev pub opens_soundly : (a : OpenArray) → Opens a → IsSoundOpened ts a.levels a.number
+  opens_soundly a h = (is_copied a.opening, h.shape, h.at, h.there)
+
   -- ---- variables, and the records of WITHs
-  -- a variable holds what lies in it or where it leads to
-  pub variable_lies : (n : RNamed) (v : RVar) (p : RPassing) → vs n ≡ Some v → passing_of v.mode ≡ Some p → (x : Shape) × (slice_get fits.shapes v.sort ≡ Some x) × (is_there x ≡ true) × (variable_at ts (named_view n) ≡ Some (held_by p x))
+  -- a variable holds what lies in it, where it leads to, or where the elements of an open array do
+  pub variable_lies : (n : RNamed) (v : RVar) (p : RPassing) → vs n ≡ Some v → passing_of v.mode ≡ p → (x : Shape) × (slice_get fits.shapes v.sort ≡ Some x) × (is_there x ≡ true) × (variable_at ts (named_view n) ≡ Some (held_by p x))
   variable_lies n v p is passed =
       let one = fits.variables n v is in
-      let held = mapped (held_by p) (there (slice_get fits.shapes v.sort)) one.0 (ap (λ (o : Option RPassing). held_as o (there (slice_get fits.shapes v.sort))) (sym passed) ∙ one.1) in
+      let held = mapped (held_by p) (there (slice_get fits.shapes v.sort)) one.0 (ap (λ (p : RPassing). option_map (held_by p) (there (slice_get fits.shapes v.sort))) (sym passed) ∙ one.1) in
       let here = there_is (slice_get fits.shapes v.sort) held.0 held.1 in
       (held.0, here.0, here.1, one.2 ∙ ap Some (sym held.2))
 
-  in_variable : (n : RNamed) (v : RVar) → vs n ≡ Some v → passing_of v.mode ≡ Some passing.ByValue → Lies (at_root (root.Variable n) v.sort)
+  in_variable : (n : RNamed) (v : RVar) → vs n ≡ Some v → passing_of v.mode ≡ passing.ByValue → Lies (at_root (root.Variable n) v.sort)
   in_variable n v is passed =
       let at = variable_lies n v passing.ByValue is passed in
-      placed_as fits.shapes ts _ v.sort (resolved.Variable (named_view n)) (placed_is (root.Variable n) []) (at.1 ∙ ap (λ o. Some (shape_by o)) (sym at.3)) tt
+      placed_as fits.shapes ts _ v.sort (resolved.Variable (named_view n)) (placed_is (root.Variable n) [] ∙ variable_is n) (at.1 ∙ ap (λ o. Some (shape_by o)) (sym at.3)) tt
+
+  -- a variable that holds an address is a parameter
+  parameter_lies : (l x : ℕ) (v : RVar) (p : RPassing) → vs (named.Level l x) ≡ Some v → passing_of v.mode ≡ p → HoldsAddress v.mode → (y : Shape) × (slice_get fits.shapes v.sort ≡ Some y) × (is_there y ≡ true) × (slice_get (parameters_at ts l) x ≡ Some (held_by p y))
+  parameter_lies l x v p is passed holds = let at = variable_lies (named.Level l x) v p is passed in (at.0, at.1, at.2, fits.handed l x v is holds ∙ at.3)
 
   handed_in : (l x : ℕ) (v : RVar) → vs (named.Level l x) ≡ Some v → v.mode ≡ mode.Place → Lies (at_root (root.Handed l x) v.sort)
   handed_in l x v is place =
-      let at = variable_lies (named.Level l x) v passing.ByPlace is (ap passing_of place) in
-      let known : slice_get (parameters_at ts l) x ≡ Some (Address at.0) = fits.handed l x v is place ∙ at.3 in
-      placed_as fits.shapes ts _ v.sort (resolved.Handed l x) (placed_is (root.Handed l x) []) (at.1 ∙ ap (λ o. Some (led_to (shape_by o))) (sym known)) (at.0, known, at.2)
+      let at = parameter_lies l x v passing.ByPlace is (ap passing_of place) (subst HoldsAddress (sym place) tt) in
+      placed_as fits.shapes ts _ v.sort (resolved.Handed l x) (placed_is (root.Handed l x) [] ∙ handed_is l x) (at.1 ∙ ap (λ o. Some (led_to (shape_by o))) (sym at.3)) (at.0, at.3, at.2)
 
-  pub variable_sound : (n : RNamed) (v : RVar) (r : RRoot) → vs n ≡ Some v → root_of v.mode n ≡ Some r → Lies (at_root r v.sort)
-  variable_sound n v r is leads = by v.mode n refl is leads
+  opened_in : (l x : ℕ) (v : RVar) (o : ROpening) → vs (named.Level l x) ≡ Some v → passing_of v.mode ≡ passing.Open o → HoldsAddress v.mode → Opens (record { opening = o; levels = l; number = x; sort = v.sort })
+  opened_in l x v o is passed holds = let at = parameter_lies l x v (passing.Open o) is passed holds in record { shape = at.0; at = at.3; element = at.1; there = at.2 }
+
+  pub variable_sound : (n : RNamed) (v : RVar) (p : Located) → vs n ≡ Some v → variable_form n v.mode v.sort ≡ form.Located p → Lies p
+  variable_sound n v p is leads = by v.mode n refl is leads
     where
-      along : {q : RRoot} → Some q ≡ Some r → Lies (at_root q v.sort) → Lies (at_root r v.sort)
-      along {q} e h = subst (λ (r : RRoot). Lies (at_root r v.sort)) (same_Some q r e) h
+      led : (q : Located) → form.Located q ≡ form.Located p → Lies q → Lies p
+      led q e h = subst Lies (same_place q p e) h
 
-      by : (m : Mode) (n : RNamed) → v.mode ≡ m → vs n ≡ Some v → root_of m n ≡ Some r → Lies (at_root r v.sort)
-      by mode.Plain n same is e = along e (in_variable n v is (ap passing_of same))
-      by mode.Value n same is e = along e (in_variable n v is (ap passing_of same))
-      by mode.Place (named.Module x) same is e = absurd (none-some r e)
-      by mode.Place (named.Level l x) same is e = along e (handed_in l x v is same)
-      by mode.OpenValue n same is e = absurd (none-some r e)
-      by mode.OpenPlace n same is e = absurd (none-some r e)
+      by : (m : Mode) (n : RNamed) → v.mode ≡ m → vs n ≡ Some v → variable_form n m v.sort ≡ form.Located p → Lies p
+      by mode.Plain n same is e = led (at_root (root.Variable n) v.sort) e (in_variable n v is (ap passing_of same))
+      by mode.Value n same is e = led (at_root (root.Variable n) v.sort) e (in_variable n v is (ap passing_of same))
+      by mode.Place (named.Module x) same is e = absurd (none-some p (ap located_in e))
+      by mode.Place (named.Level l x) same is e = led (at_root (root.Handed l x) v.sort) e (handed_in l x v is same)
+      by mode.OpenValue (named.Module x) same is e = absurd (none-some p (ap located_in e))
+      by mode.OpenValue (named.Level l x) same is e = absurd (none-some p (ap located_in e))
+      by mode.OpenPlace (named.Module x) same is e = absurd (none-some p (ap located_in e))
+      by mode.OpenPlace (named.Level l x) same is e = absurd (none-some p (ap located_in e))
+
+  pub opened_sound : (n : RNamed) (v : RVar) (a : OpenArray) → vs n ≡ Some v → variable_form n v.mode v.sort ≡ form.Open a → Opens a
+  opened_sound n v a is leads = by v.mode n refl is leads
+    where
+      by : (m : Mode) (n : RNamed) → v.mode ≡ m → vs n ≡ Some v → variable_form n m v.sort ≡ form.Open a → Opens a
+      by mode.Plain n same is e = absurd (none-some a (ap open_in e))
+      by mode.Value n same is e = absurd (none-some a (ap open_in e))
+      by mode.Place (named.Module x) same is e = absurd (none-some a (ap open_in e))
+      by mode.Place (named.Level l x) same is e = absurd (none-some a (ap open_in e))
+      by mode.OpenValue (named.Module x) same is e = absurd (none-some a (ap open_in e))
+      by mode.OpenValue (named.Level l x) same is e = subst Opens (same_open _ a e) (opened_in l x v Copied is (ap passing_of same) (subst HoldsAddress (sym same) tt))
+      by mode.OpenPlace (named.Module x) same is e = absurd (none-some a (ap open_in e))
+      by mode.OpenPlace (named.Level l x) same is e = subst Opens (same_open _ a e) (opened_in l x v Lent is (ap passing_of same) (subst HoldsAddress (sym same) tt))
 
   pub held_sound : (w s : ℕ) → slice_get around w ≡ Some s → Lies (at_root (root.Held (length around - 1 - w)) s)
   held_sound w s is =
       let at = fits.held w s is in
       let k = length around - 1 - w in
-      placed_as fits.shapes ts _ s (resolved.Held k) (placed_is (root.Held k) []) (at.1 ∙ ap (λ o. Some (shape_by o)) (sym at.2)) (at.0, at.2, at.3)
+      placed_as fits.shapes ts _ s (resolved.Held k) (placed_is (root.Held k) [] ∙ held_is k) (at.1 ∙ ap (λ o. Some (shape_by o)) (sym at.2)) (at.0, at.2, at.3)
 
   -- ---- parts
   pub field_sound : (p : Located) (i s : ℕ) → field_at t p.sort i ≡ Some s → Lies p → Lies (part_of p (part.Field i) s)
@@ -90,6 +139,13 @@ module _ {t : Table} {vs : RNamed → Option RVar} {around : List ℕ} {R : Reac
       let d = place_of p.place in
       let is = element_shaped t fits.shapes p.sort (shape_of ts d) (has_shape fits p.sort (shape_of ts d) h.shape) parts j at kind in
       placed_as fits.shapes ts _ parts.element (resolved.Element d (kind_view j) (expression_of x)) (further_is p.place (part.Index j x) ∙ index_is j x d) is.0 (is.1, takes, h.good, runs)
+
+  pub along_sound : (a : OpenArray) (x : RExpr) → sound.takes_value (OfWhole Cardinal) (value_kind x) ≡ true → Opens a → Runs ts x → Lies (at_root (root.Along a.levels a.number x) a.sort)
+  along_sound a x takes h runs =
+      placed_as fits.shapes ts _ a.sort (resolved.Along a.levels a.number (expression_of x)) (placed_is (root.Along a.levels a.number x) [] ∙ along_is a.levels a.number x) (h.element ∙ ap (λ (o : Option Shape). Some (along (shape_by o))) (sym h.at)) (opens_soundly a h, takes, runs)
+
+  pub high_sound : (a : OpenArray) → Opens a → Runs ts (e.High a.levels a.number)
+  high_sound a h = subst (IsSoundExpression ts) (sym (high_is a.levels a.number)) (opens_soundly a h)
 
   pub follow_sound : (p : Located) (x : Target) → target_at t p.sort ≡ Some x → Lies p → Lies (part_of p (part.Follow x.pointer) x.sort)
   follow_sound p x at h =
@@ -114,83 +170,122 @@ module _ {t : Table} {vs : RNamed → Option RVar} {around : List ℕ} {R : Reac
   pub composite_there : (p : Located) → Lies p → composite_at t p.sort ≡ true → is_there (shape_of ts (place_of p.place)) ≡ true
   composite_there p h at = let x = shape_of ts (place_of p.place) in composite_shaped t fits.shapes p.sort x (has_shape fits p.sort x h.shape) at
 
+  -- an array of so many elements
+  pub record IsRow (p : Located) (s n : ℕ) : Type 0 where
+    pub shape : shape_of ts (place_of p.place) ≡ Row n (elements (shape_of ts (place_of p.place)))
+    pub element : slice_get fits.shapes s ≡ Some (elements (shape_of ts (place_of p.place)))
+
+  pub array_lies : (p : Located) (parts : ArrayParts) (n : ℕ) (y : Shape) → Lies p → array_at t p.sort ≡ Some parts → elements_at t p.sort ≡ Some n → slice_get fits.shapes parts.element ≡ Some y → is_there y ≡ true → IsRow p parts.element n
+  array_lies p parts n y h at many is here =
+      let x = shape_of ts (place_of p.place) in
+      let kind = mapped numbers_of (kind_at t parts.index) n (ap (elements_in t) (sym at) ∙ many) in
+      let row = element_shaped t fits.shapes p.sort x (has_shape fits p.sort x h.shape) parts kind.0 at kind.1 in
+      let same : y ≡ elements x = same_Some y (elements x) (sym is ∙ row.0) in
+      record { shape = row_is x (ap is_there (sym same) ∙ here) ∙ ap (λ (n : ℕ). Row n (elements x)) (row.1 ∙ kind.2); element = row.0 }
+
+  character_shaped : (s : ℕ) (y : Shape) → s ≡ char → slice_get fits.shapes s ≡ Some y → y ≡ Word OfCharacter
+  character_shaped s y is at = word_shaped t fits.shapes char y (has_shape fits char y (ap (slice_get fits.shapes) (sym is) ∙ at)) (plain b.Character) refl
+
   -- an array of characters
-  pub characters_lie : (p : Located) (n : ℕ) → Lies p → characters_at t p.sort ≡ Some n → shape_of ts (place_of p.place) ≡ Row n (Word OfCharacter)
-  characters_lie p n h = by (array_at t p.sort) refl
-    where
-      by : (o : Option ArrayParts) → array_at t p.sort ≡ o → characters_in t o ≡ Some n → shape_of ts (place_of p.place) ≡ Row n (Word OfCharacter)
-      by None at is = absurd (none-some n is)
-      by (Some parts) at is =
-          let x = shape_of ts (place_of p.place) in
-          let both = if_some (parts.element == char) (option_map numbers_of (kind_at t parts.index)) n is in
-          let kind = mapped numbers_of (kind_at t parts.index) n both.1 in
-          let row = element_shaped t fits.shapes p.sort x (has_shape fits p.sort x h.shape) parts kind.0 at kind.1 in
-          let has = has_shape fits char (elements x) (ap (slice_get fits.shapes) (sym (same_sort parts.element char both.0)) ∙ row.0) in
-          row_is x OfCharacter (word_shaped t fits.shapes char (elements x) has (plain b.Character) refl) ∙ ap (λ n. Row n (Word OfCharacter)) (row.1 ∙ kind.2)
+  pub characters_lie : (p : Located) (parts : ArrayParts) (n : ℕ) → Lies p → array_at t p.sort ≡ Some parts → parts.element ≡ char → elements_at t p.sort ≡ Some n → shape_of ts (place_of p.place) ≡ Row n (Word OfCharacter)
+  characters_lie p parts n h at of many =
+      let x = shape_of ts (place_of p.place) in
+      let kind = mapped numbers_of (kind_at t parts.index) n (ap (elements_in t) (sym at) ∙ many) in
+      let row = element_shaped t fits.shapes p.sort x (has_shape fits p.sort x h.shape) parts kind.0 at kind.1 in
+      let word = character_shaped parts.element (elements x) of row.0 in
+      row_is x (ap is_there word) ∙ ap (λ (n : ℕ). Row n (elements x)) (row.1 ∙ kind.2) ∙ ap (Row n) word
 
   -- ---- calls of functions, and what they are handed
   -- a sound argument for a parameter whose variable holds this
   pub record IsPassed (y : Shape) (a : RArgument) : Type 0 where
     pub shape : y ≡ parameter_of ts (argument_of a)
     pub sound : IsSoundArgument ts (argument_of a)
-    pub single : IsSingle (argument_of a)
 
-  passed_as : (y : Shape) (a : RArgument) (x : Argument) → argument_of a ≡ x → y ≡ parameter_of ts x → IsSoundArgument ts x → IsSingle x → IsPassed y a
-  passed_as y a x is shape good single = record { shape = shape ∙ ap (parameter_of ts) (sym is); sound = subst (IsSoundArgument ts) (sym is) good; single = subst IsSingle (sym is) single }
+  passed_as : (y : Shape) (a : RArgument) (x : Argument) → argument_of a ≡ x → y ≡ parameter_of ts x → IsSoundArgument ts x → IsPassed y a
+  passed_as y a x is shape good = record { shape = shape ∙ ap (parameter_of ts) (sym is); sound = subst (IsSoundArgument ts) (sym is) good }
 
   -- it has the shape of what lies at a place of the parameter's type
-  shape_there : (p : Parameter) (c : RPassing) (y : Shape) → passing_of (passing_by p.by_place) ≡ Some c → parameter_shape fits.shapes p ≡ Some y → (x : Shape) × (slice_get fits.shapes p.sort ≡ Some x) × (is_there x ≡ true) × (y ≡ held_by c x)
+  shape_there : (p : Parameter) (c : RPassing) (y : Shape) → passing_of (passing_by p) ≡ c → parameter_shape fits.shapes p ≡ Some y → (x : Shape) × (slice_get fits.shapes p.sort ≡ Some x) × (is_there x ≡ true) × (y ≡ held_by c x)
   shape_there p c y passed lies =
-      let held = mapped (held_by c) (there (slice_get fits.shapes p.sort)) y (ap (λ o. held_as o (there (slice_get fits.shapes p.sort))) (sym passed) ∙ lies) in
+      let held = mapped (held_by c) (there (slice_get fits.shapes p.sort)) y (ap (λ (r : RPassing). option_map (held_by r) (there (slice_get fits.shapes p.sort))) (sym passed) ∙ lies) in
       let here = there_is (slice_get fits.shapes p.sort) held.0 held.1 in
       (held.0, here.0, here.1, sym held.2)
+
+  -- how a parameter is handed over
+  passed_so : (p : Parameter) (by_place open_array : Bool) → p.by_place ≡ by_place → p.open_array ≡ open_array → passing_of (passing_by p) ≡ passing_of (mode_of by_place open_array)
+  passed_so p by_place open_array h j = λ i. passing_of (mode_of (h i) (j i))
 
   same_shape : (p : Parameter) (at : Located) (x : Shape) → at.sort ≡ p.sort → Lies at → slice_get fits.shapes p.sort ≡ Some x → x ≡ shape_of ts (place_of at.place)
   same_shape p at x sort lies here = same_Some x (shape_of ts (place_of at.place)) (sym here ∙ ap (slice_get fits.shapes) (sym sort) ∙ lies.shape)
 
-  value_passed : (p : Parameter) (a : RArgument) (y : Shape) → parameter_shape fits.shapes p ≡ Some y → IsValueFor t Lies (Runs ts) p a → IsPassed y a
+  value_passed : (p : Parameter) (a : RArgument) (y : Shape) → parameter_shape fits.shapes p ≡ Some y → IsValueFor t Lies Opens (Runs ts) p a → IsPassed y a
   value_passed p a y lies h =
-      let x = shape_there p passing.ByValue y (ap (λ c. passing_of (passing_by c)) h.by_value) lies in
+      let x = shape_there p passing.ByValue y (passed_so p false false h.by_value h.closed) lies in
       let word = word_shaped t fits.shapes p.sort x.0 (has_shape fits p.sort x.0 x.1) h.kind h.at in
-      passed_as y a (ByValue (kind_view h.kind) (expression_of h.value)) (ap argument_of h.is ∙ by_value_is h.kind h.value) (x.3 ∙ word) (h.stores, h.shallow, h.good) tt
+      passed_as y a (ByValue (kind_view h.kind) (expression_of h.value)) (ap argument_of h.is ∙ by_value_is h.kind h.value) (x.3 ∙ word) (h.stores, h.shallow, h.good)
 
-  place_passed : (p : Parameter) (a : RArgument) (y : Shape) → parameter_shape fits.shapes p ≡ Some y → IsPlaceFor t Lies (Runs ts) p a → IsPassed y a
+  place_passed : (p : Parameter) (a : RArgument) (y : Shape) → parameter_shape fits.shapes p ≡ Some y → IsPlaceFor t Lies Opens (Runs ts) p a → IsPassed y a
   place_passed p a y lies h =
-      let x = shape_there p passing.ByPlace y (ap (λ c. passing_of (passing_by c)) h.by_place) lies in
+      let x = shape_there p passing.ByPlace y (passed_so p true false h.by_place h.closed) lies in
       let same = same_shape p h.at x.0 h.sort h.good x.1 in
-      passed_as y a (OfPlace (place_of h.at.place)) (ap argument_of h.is ∙ of_place_is h.at.place) (x.3 ∙ ap Address same) (ap is_there (sym same) ∙ x.2, h.shallow, h.good.good) tt
+      passed_as y a (OfPlace (place_of h.at.place)) (ap argument_of h.is ∙ of_place_is h.at.place) (x.3 ∙ ap Address same) (ap is_there (sym same) ∙ x.2, h.shallow, h.good.good)
 
-  whole_passed : (p : Parameter) (a : RArgument) (y : Shape) → parameter_shape fits.shapes p ≡ Some y → IsWholeFor t Lies (Runs ts) p a → IsPassed y a
+  whole_passed : (p : Parameter) (a : RArgument) (y : Shape) → parameter_shape fits.shapes p ≡ Some y → IsWholeFor t Lies Opens (Runs ts) p a → IsPassed y a
   whole_passed p a y lies h =
-      let x = shape_there p passing.ByValue y (ap (λ c. passing_of (passing_by c)) h.by_value) lies in
+      let x = shape_there p passing.ByValue y (passed_so p false false h.by_value h.closed) lies in
       let same = same_shape p h.at x.0 h.sort h.good x.1 in
-      passed_as y a (OfAll (place_of h.at.place)) (ap argument_of h.is ∙ of_all_is h.at.place) (x.3 ∙ same) (ap is_there (sym same) ∙ x.2, h.shallow, h.good.good) tt
+      passed_as y a (OfAll (place_of h.at.place)) (ap argument_of h.is ∙ of_all_is h.at.place) (x.3 ∙ same) (ap is_there (sym same) ∙ x.2, h.shallow, h.good.good)
 
-  one_passed : (p : Parameter) (a : RArgument) (y : Shape) → parameter_shape fits.shapes p ≡ Some y → IsHanded t Lies (Runs ts) p a → IsPassed y a
+  array_passed : (p : Parameter) (a : RArgument) (y : Shape) → parameter_shape fits.shapes p ≡ Some y → IsArrayFor t Lies Opens (Runs ts) p a → IsPassed y a
+  array_passed p a y lies h =
+      let o = opening p.by_place in
+      let d = place_of h.at.place in
+      let x = shape_there p (passing.Open o) y (passed_so p p.by_place true refl h.opens ∙ open_passing p.by_place) lies in
+      let row = array_lies h.at h.parts (suc h.high) x.0 h.good h.array h.count (ap (slice_get fits.shapes) h.element ∙ x.1) x.2 in
+      let same : x.0 ≡ elements (shape_of ts d) = same_Some x.0 (elements (shape_of ts d)) (sym x.1 ∙ ap (slice_get fits.shapes) (sym h.element) ∙ row.element) in
+      passed_as y a (OfArray (is_copied o) d h.high) (ap argument_of h.is ∙ of_array_is o h.at.place h.high) (x.3 ∙ ap (Opened (is_copied o)) same) (row.shape, ap is_there (sym same) ∙ x.2, h.few, h.shallow, h.good.good)
+
+  text_passed : (p : Parameter) (a : RArgument) (y : Shape) → parameter_shape fits.shapes p ≡ Some y → IsTextFor t Lies Opens (Runs ts) p a → IsPassed y a
+  text_passed p a y lies h =
+      let x = shape_there p (passing.Open Copied) y (passed_so p false true h.by_value h.opens) lies in
+      passed_as y a (OfText h.text) (ap argument_of h.is ∙ of_text_is h.text) (x.3 ∙ ap (Opened true) (character_shaped p.sort x.0 h.sort x.1)) h.told
+
+  open_passed : (p : Parameter) (a : RArgument) (y : Shape) → parameter_shape fits.shapes p ≡ Some y → IsOpenFor t Lies Opens (Runs ts) p a → IsPassed y a
+  open_passed p a y lies h =
+      let o = opening p.by_place in
+      let q = h.at in
+      let x = shape_there p (passing.Open o) y (passed_so p p.by_place true refl h.opens ∙ open_passing p.by_place) lies in
+      let same : x.0 ≡ h.good.shape = same_Some x.0 h.good.shape (sym x.1 ∙ ap (slice_get fits.shapes) (sym h.sort) ∙ h.good.element) in
+      let leads : h.good.shape ≡ along (shape_at (parameters_at ts q.levels) q.number) = ap (λ (o : Option Shape). along (shape_by o)) (sym h.good.at) in
+      passed_as y a (OfOpened (is_copied o) q.levels q.number) (ap argument_of h.is ∙ of_opened_is o q.levels q.number) (x.3 ∙ ap (Opened (is_copied o)) (same ∙ leads)) (opens_soundly q h.good)
+
+  one_passed : (p : Parameter) (a : RArgument) (y : Shape) → parameter_shape fits.shapes p ≡ Some y → IsHanded t Lies Opens (Runs ts) p a → IsPassed y a
   one_passed p a y lies (inl h) = value_passed p a y lies h
   one_passed p a y lies (inr (inl h)) = place_passed p a y lies h
-  one_passed p a y lies (inr (inr h)) = whole_passed p a y lies h
+  one_passed p a y lies (inr (inr (inl h))) = whole_passed p a y lies h
+  one_passed p a y lies (inr (inr (inr (inl h)))) = array_passed p a y lies h
+  one_passed p a y lies (inr (inr (inr (inr (inl h))))) = text_passed p a y lies h
+  one_passed p a y lies (inr (inr (inr (inr (inr h))))) = open_passed p a y lies h
 
   pub record ArePassed (ys : List Shape) (xs : List RArgument) : Type 0 where
     pub takes : ys ≡ parameters_given ts (arguments_of xs)
     pub sound : AreSoundArguments ts (arguments_of xs)
-    pub single : AreSingle (arguments_of xs)
 
-  pub all_passed : (ps : List Parameter) (xs : List RArgument) (ys : List Shape) → all_some (map (parameter_shape fits.shapes) ps) ≡ Some ys → AreHanded t Lies (Runs ts) ps xs → ArePassed ys xs
-  all_passed [] [] ys lies h = record { takes = sym (same_Some [] ys lies); sound = tt; single = tt }
+  pub all_passed : (ps : List Parameter) (xs : List RArgument) (ys : List Shape) → all_some (map (parameter_shape fits.shapes) ps) ≡ Some ys → AreHanded t Lies Opens (Runs ts) ps xs → ArePassed ys xs
+  all_passed [] [] ys lies h = record { takes = sym (same_Some [] ys lies); sound = tt }
   all_passed [] (a ∷ xs) ys lies h = absurd h
   all_passed (p ∷ ps) [] ys lies h = absurd h
   all_passed (p ∷ ps) (a ∷ xs) ys lies h =
       let first = first_some (parameter_shape fits.shapes p) (map (parameter_shape fits.shapes) ps) ys lies in
       let one = one_passed p a first.value first.is h.0 in
       let rest = all_passed ps xs first.rest first.others h.1 in
-      record { takes = first.all ∙ (λ i. one.shape i ∷ rest.takes i); sound = (one.sound, rest.sound); single = (one.single, rest.single) }
+      record { takes = first.all ∙ (λ i. one.shape i ∷ rest.takes i); sound = (one.sound, rest.sound) }
 
-  pub invoke_sound : (s n levels r : ℕ) (j : RKind) (xs : List RArgument) → R s n levels → result t s ≡ Some r → kind_at t r ≡ Some j → AreHanded t Lies (Runs ts) (parameters t s) xs → Runs ts (e.Invoke (n + 1) levels j xs)
+  pub invoke_sound : (s n levels r : ℕ) (j : RKind) (xs : List RArgument) → R s n levels → result t s ≡ Some r → kind_at t r ≡ Some j → AreHanded t Lies Opens (Runs ts) (parameters t s) xs → Runs ts (e.Invoke (n + 1) levels j xs)
   invoke_sound s n levels r j xs reached returns at all =
       let c = fits.calls s n levels reached in
       let g = all_passed (parameters t s) xs (parameters_of (procedure_by ts.procedures (n + 1))) (c.takes fits.shapes fits.types) all in
-      subst (IsSoundExpression ts) (sym (invoke_is (n + 1) levels j xs)) (c.may, c.returns ∙ ap (returned t) returns ∙ ap (option_map kind_view) at, g.takes, g.sound, g.single)
+      subst (IsSoundExpression ts) (sym (invoke_is (n + 1) levels j xs)) (c.may, c.returns ∙ ap (returned t) returns ∙ ap (option_map kind_view) at, g.takes, g.sound)
 
 -- ---- expressions
 module _ (ts : Scope) where
@@ -237,12 +332,16 @@ module _ (ts : Scope) where
 abbrev pub soundness : {t : Table} {vs : RNamed → Option RVar} {around : List ℕ} {R : Reach} {ts : Scope} → Fits t vs around R ts → Property t vs around R
 soundness {ts} fits = record {
   place = Lies fits;
+  array = Opens fits;
   value = Runs ts;
   variable = variable_sound fits;
   held = held_sound fits;
   field = field_sound fits;
   index = index_sound fits;
+  along = along_sound fits;
   follow = follow_sound fits;
+  opened = opened_sound fits;
+  high = high_sound fits;
   constant = constant_sound ts;
   taken = λ p j is h. subst (IsSoundExpression ts) (sym (taken_is p.place j)) (scalar fits p j is h, h.good);
   one = one_sound ts;

@@ -1,5 +1,5 @@
 -- The forms of statements that have no statements in them, and of arguments and calls.
-use Rattle.std.specs.Prelude.{ℕ, zero, suc, nat_le, List, [], ◌∷◌, Option, Some, None, if◌then◌else◌, pos}
+use Rattle.std.specs.Prelude.{ℕ, zero, suc, nat_le, Bool, true, false, List, [], ◌∷◌, Option, Some, None, if◌then◌else◌, pos}
 use Rattle.lil_base.specs.Lists.{joined}
 use Rattle.lil_types.specs.{Types.Table, declared.table.Parameter.Parameter}
 use Rattle.lil_declared.specs.declared.standard.Resident.{Resident}
@@ -7,15 +7,15 @@ use Rattle.lil_declared.specs.declared.standard.Resident.TheVariants as resident
 use Rattle.lil_kinds.specs.declared.found.{Form.Form, Found.Found, Located.Located}
 use Rattle.lil_kinds.specs.declared.found.Form.TheVariants as form
 use Rattle.lil_resolved.specs.Views.{kind_view}
-use Rattle.lil_resolved.specs.declared.resolved.{Allocation.{Allocation, TheVariants.{Takes, GivesBack}}, Direction.Direction, Membership.Membership, RArgument.{RArgument, out-RArgument, TheOpen.RArgument-F}, RExpr.RExpr, RKind.RKind, RMember.RMember, ROperation.ROperation, RPlace.RPlace, RSelector.RSelector, RStmt.RStmt}
+use Rattle.lil_resolved.specs.declared.resolved.{Allocation.{Allocation, TheVariants.{Takes, GivesBack}}, Direction.Direction, Membership.Membership, RArgument.{RArgument, out-RArgument, TheOpen.RArgument-F}, RExpr.RExpr, RKind.RKind, RMember.RMember, ROpening.{ROpening, TheVariants.{Copied, Lent}}, ROperation.ROperation, RPlace.RPlace, RRoot.RRoot, RSelector.RSelector, RStmt.RStmt}
 use Rattle.lil_resolved.specs.declared.resolved.RArgument.TheVariants as given
 use Rattle.lil_resolved.specs.declared.resolved.RArgument.TheOpen as x
 use Rattle.lil_resolved.specs.declared.resolved.RExpr.TheVariants as e
 use Rattle.lil_resolved.specs.declared.resolved.RStmt.TheVariants as s
 use Rattle.lil_base.specs.declared.request.Request as requests
 use Rattle.lil_base.specs.declared.request.Request.TheVariants as q
-use Rattle.lil_shapes.specs.{Bases.{kind_at, characters_at, members_at, composite_at}, Operators.{counted, counted_base}, declared.{members.Members.Members, pointers.Target.Target}, Pointers.target_of}
-use Rattle.lil_forms.specs.{declared.places.Cell.Cell, Values.typed, Places.cell}
+use Rattle.lil_shapes.specs.{Bases.{kind_at, elements_at, members_at, composite_at}, Operators.{counted, counted_base}, declared.{members.Members.Members, pointers.Target.Target}, Pointers.target_of}
+use Rattle.lil_forms.specs.{declared.places.Cell.Cell, Values.typed, Places.{located_in, cell}}
 
 -- ---- assignments
 -- a value goes to a place of a kind
@@ -28,6 +28,7 @@ abbrev pub composed : Located → Form → Option RStmt
 composed p form.Nothing = None
 composed p (form.Text cs) = Some (s.Text p.place cs)
 composed p (form.Located q) = Some (s.Copy p.place q.place)
+composed p (form.Open a) = None
 composed p (form.Value x) = None
 
 -- a value goes to a place, by the place's type
@@ -102,33 +103,33 @@ allocated way _ _ = None
 
 -- ---- the forms of arguments, and of calls of resident procedures
 
--- ---- open arrays of characters: an array, or a string
+-- ---- open arrays: an array, a string, or another one
+-- one by place isn't copied
+abbrev pub opening : Bool → ROpening
+opening false = Copied
+opening true = Lent
+
 -- the number of the last of some elements
 abbrev pub last_of : Option ℕ → Option ℕ
 last_of None = None
 last_of (Some zero) = None
 last_of (Some (suc n)) = if nat_le n 65535 then Some n else None
 
-abbrev pub array_as : Located → Option ℕ → Option RArgument
-array_as p None = None
-array_as p (Some last) = Some (given.Array p.place last)
+abbrev pub array_as : ROpening → Located → Option ℕ → Option RArgument
+array_as o p None = None
+array_as o p (Some last) = Some (given.Array o p.place last)
 
-abbrev pub array_given : Table → Located → Option RArgument
-array_given t p = array_as p (last_of (characters_at t p.sort))
+abbrev pub array_given : Table → ROpening → Located → Option RArgument
+array_given t o p = array_as o p (last_of (elements_at t p.sort))
 
-abbrev pub string_given : Table → Form → Option RArgument
-string_given t form.Nothing = None
-string_given t (form.Text cs) = Some (given.Text cs)
-string_given t (form.Located p) = array_given t p
-string_given t (form.Value x) = None
+abbrev pub open_given : Table → ROpening → Form → Option RArgument
+open_given t o form.Nothing = None
+open_given t o (form.Text cs) = Some (given.Text cs)
+open_given t o (form.Located p) = array_given t o p
+open_given t o (form.Open a) = Some (given.Opened o a.levels a.number)
+open_given t o (form.Value x) = None
 
 -- ---- places
-abbrev pub located_in : Form → Option Located
-located_in form.Nothing = None
-located_in (form.Text cs) = None
-located_in (form.Located p) = Some p
-located_in (form.Value x) = None
-
 abbrev pub place_given : Option Located → Option RArgument
 place_given None = None
 place_given (Some p) = Some (given.Place p.place)
@@ -148,11 +149,10 @@ value_by t s None a = if composite_at t s then whole_given (located_in a.form) e
 value_by t s (Some j) a = value_as j (typed t s a)
 
 -- ---- what a call is handed, argument by argument, where all of it has code
--- open arrays by place have none
 abbrev pub argument_given : Table → Parameter → Found → Option RArgument
 argument_given t p a =
-    if p.by_place then (if p.open_array then None else place_given (located_in a.form))
-    else (if p.open_array then string_given t a.form else value_by t p.sort (kind_at t p.sort) a)
+    if p.open_array then open_given t (opening p.by_place) a.form
+    else (if p.by_place then place_given (located_in a.form) else value_by t p.sort (kind_at t p.sort) a)
 
 abbrev pub nothing_handed : Option (List RArgument)
 nothing_handed = Some []
@@ -187,22 +187,24 @@ request None xs = None
 request (Some r) xs = Some (s.Request r xs)
 
 -- the place, and the value, that an argument is
-abbrev pub place_of_layer : RArgument-F RArgument RExpr RMember RSelector ROperation RPlace → Option RPlace
+abbrev pub place_of_layer : RArgument-F RArgument RExpr RMember RRoot RSelector ROperation RPlace → Option RPlace
 place_of_layer (x.Value j a) = None
 place_of_layer (x.Place p) = Some p
 place_of_layer (x.All p) = None
-place_of_layer (x.Array p high) = None
+place_of_layer (x.Array o p high) = None
 place_of_layer (x.Text cs) = None
+place_of_layer (x.Opened o n i) = None
 
 abbrev pub place_in : RArgument → Option RPlace
 place_in a = place_of_layer (out-RArgument a)
 
-abbrev pub value_of_layer : RArgument-F RArgument RExpr RMember RSelector ROperation RPlace → Option RExpr
+abbrev pub value_of_layer : RArgument-F RArgument RExpr RMember RRoot RSelector ROperation RPlace → Option RExpr
 value_of_layer (x.Value j a) = Some a
 value_of_layer (x.Place p) = None
 value_of_layer (x.All p) = None
-value_of_layer (x.Array p high) = None
+value_of_layer (x.Array o p high) = None
 value_of_layer (x.Text cs) = None
+value_of_layer (x.Opened o n i) = None
 
 abbrev pub value_in : RArgument → Option RExpr
 value_in a = value_of_layer (out-RArgument a)

@@ -2,7 +2,7 @@
 use Rattle.std.specs.Prelude.{ℕ, List, [], ◌∷◌, ◌++◌, Option, Some, None, option_and_then, ℤ, pos}
 use Rattle.std.specs.Option.{option_map}
 use Rattle.lil_base.specs.declared.operator.{OneOp.OneOp, TwoOp.TwoOp}
-use Rattle.lil_types.specs.Types.{Table, base}
+use Rattle.lil_types.specs.Types.{Table, base, cardinal}
 use Rattle.lil_declared.specs.declared.standard.Standard.{Standard}
 use Rattle.lil_declared.specs.declared.standard.Standard.TheVariants as standard
 use Rattle.lil_scope.specs.declared.thing.Kind.{Kind}
@@ -41,6 +41,7 @@ abbrev pub own : Table → Form → Option RExpr
 own t form.Nothing = None
 own t (form.Text cs) = None
 own t (form.Located p) = taken t p
+own t (form.Open a) = None
 own t (form.Value x) = Some x
 
 abbrev pub typed_by : Table → ℕ → Kind → Form → Option RExpr
@@ -127,3 +128,16 @@ function_by t _ s = None
 abbrev pub applied : Option RFunction → Option RExpr → Option RExpr
 applied (Some g) (Some x) = Some (e.Apply g x)
 applied _ _ = None
+
+-- HIGH of an open array
+abbrev pub high_of : Form → Option RExpr
+high_of form.Nothing = None
+high_of (form.Text cs) = None
+high_of (form.Located p) = None
+high_of (form.Open a) = Some (e.High a.levels a.number)
+high_of (form.Value x) = None
+
+-- what a standard function makes of a value
+abbrev pub function_value : Table → Standard → ℕ → Found → Option RExpr
+function_value t standard.High s x = high_of x.form
+function_value t of s x = applied (function_by t of s) (typed t cardinal x)

@@ -1,14 +1,23 @@
 -- Which variable a name means to the procedure at hand, and what is known of it.
 use Rattle.std.specs.Prelude.{ℕ, Bool, true, false, ◌==◌, nat_lt, List, [], slice_get, Option, Some, None, if◌then◌else◌}
-use Rattle.lil_declared.specs.declared.declared.{Mode.{Mode, TheVariants.{Value, Place}}, RVar.RVar}
+use Rattle.lil_types.specs.declared.table.Parameter.{Parameter}
+use Rattle.lil_declared.specs.{Modes.mode_of, declared.declared.{Mode.Mode, RVar.RVar}}
+use Rattle.lil_declared.specs.declared.declared.Mode.TheVariants as mode
 use Rattle.lil_resolved.specs.declared.resolved.RNamed.{RNamed}
 use Rattle.lil_resolved.specs.declared.resolved.RNamed.TheVariants as n
 use Rattle.lil_scope.specs.{declared.{env.Env.Env, thing.Variable.Variable}, Names.{chain, locals_in, variable_levels}}
 
 -- how the variable for a parameter is declared
-abbrev pub passing_by : Bool → Mode
-passing_by false = Value
-passing_by true = Place
+abbrev pub passing_by : Parameter → Mode
+passing_by p = mode_of p.by_place p.open_array
+
+-- one that holds an address
+abbrev pub HoldsAddress : Mode → Type 0
+HoldsAddress mode.Plain = ⊥
+HoldsAddress mode.Value = ⊥
+HoldsAddress mode.Place = Unit {0}
+HoldsAddress mode.OpenValue = Unit {0}
+HoldsAddress mode.OpenPlace = Unit {0}
 
 -- levels are bytes in the code
 abbrev pub level_named : ℕ → ℕ → Option RNamed

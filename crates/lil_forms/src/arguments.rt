@@ -1,14 +1,16 @@
 ghost use Rattle.std.specs.Prelude.{◌≡◌, None, if◌then◌else◌, IfOk};
 ghost use Rattle.lil_shapes.specs.Bases.{composite_at};
+ghost use Rattle.lil_forms.specs.Places.{located_in};
 ghost use Rattle.lil_forms.specs.Statements as spec;
 
+use crate::places::located_in;
 use crate::sets::allocated;
 use crate::values::typed;
 use lil_base::{Items, Memory, Request, joined};
 use lil_declared::Resident;
 use lil_kinds::{Form, Found, Located};
-use lil_resolved::{Allocation, RArgument, RExpr, RKind, RPlace, RStmt};
-use lil_shapes::{characters_at, composite_at, kind_at};
+use lil_resolved::{Allocation, RArgument, RExpr, RKind, ROpening, RPlace, RStmt};
+use lil_shapes::{composite_at, elements_at, kind_at};
 use lil_types::{Parameter, TypeId, TypeTable};
 use std::alloc::Global;
 
@@ -29,25 +31,37 @@ fn last_of(count: Option<u32>) -> Option<u16>
     }
 }
 
-fn array_given(t: &TypeTable, of: Located) -> Option<RArgument>
-    ensures { result ≡ spec.array_given t.now of }
+/// A parameter that is an open array by place isn't copied.
+fn opening(by_place: bool) -> ROpening
+    ensures { result ≡ spec.opening by_place }
 {
-    match last_of(characters_at(t, of.sort)) {
+    if by_place {
+        ROpening::Lent
+    } else {
+        ROpening::Copied
+    }
+}
+
+fn array_given(t: &TypeTable, opening: ROpening, of: Located) -> Option<RArgument>
+    ensures { result ≡ spec.array_given t.now opening of }
+{
+    match last_of(elements_at(t, of.sort)) {
         None => {
             drop(of);
             None
         }
-        Some(last) => Some(RArgument::Array(of.place, last)),
+        Some(last) => Some(RArgument::Array(opening, of.place, last)),
     }
 }
 
-/// An array of characters or a string, for a parameter that is an open array of them.
-fn string_given(t: &TypeTable, of: Form) -> Option<RArgument>
-    ensures { result ≡ spec.string_given t.now of }
+/// An array, a string or another open array, for a parameter that is one.
+fn open_given(t: &TypeTable, opening: ROpening, of: Form) -> Option<RArgument>
+    ensures { result ≡ spec.open_given t.now opening of }
 {
     match of {
         Form::Text(text) => Some(RArgument::Text(text)),
-        Form::Located(place) => array_given(t, place),
+        Form::Located(place) => array_given(t, opening, place),
+        Form::Open(of) => Some(RArgument::Opened(opening, of.levels, of.number)),
         rest => {
             drop(rest);
             None
@@ -57,7 +71,7 @@ fn string_given(t: &TypeTable, of: Form) -> Option<RArgument>
 
 /// All of an array or a record, for a parameter by value.
 fn composite_by(t: &TypeTable, sort: TypeId, of: Form) -> Option<RArgument>
-    ensures { result ≡ if composite_at t.now sort then spec.whole_given (spec.located_in of) else None }
+    ensures { result ≡ if composite_at t.now sort then spec.whole_given (located_in of) else None }
 {
     if composite_at(t, sort) {
         whole_given(located_in(of))
@@ -77,19 +91,6 @@ fn value_by(t: &TypeTable, sort: TypeId, kind: Option<RKind>, of: Found) -> Opti
     match typed(t, sort, of) {
         None => None,
         Some(value) => Some(RArgument::Value(kind, value)),
-    }
-}
-
-/// The place that a form is.
-pub fn located_in(of: Form) -> Option<Located>
-    ensures { result ≡ spec.located_in of }
-{
-    match of {
-        Form::Located(place) => Some(place),
-        rest => {
-            drop(rest);
-            None
-        }
     }
 }
 
@@ -113,19 +114,14 @@ fn whole_given(of: Option<Located>) -> Option<RArgument>
     }
 }
 
-/// The argument that a parameter gets. It has no form where the value has none, and where its parameter has no code.
+/// The argument that a parameter gets. It has no form where the value has none.
 fn argument_given(t: &TypeTable, parameter: Parameter, of: Found) -> Option<RArgument>
     ensures { result ≡ spec.argument_given t.now parameter of }
 {
-    if parameter.by_place {
-        if parameter.open_array {
-            drop(of);
-            None
-        } else {
-            place_given(located_in(of.form))
-        }
-    } else if parameter.open_array {
-        string_given(t, of.form)
+    if parameter.open_array {
+        open_given(t, opening(parameter.by_place), of.form)
+    } else if parameter.by_place {
+        place_given(located_in(of.form))
     } else {
         let kind = kind_at(t, parameter.sort);
         value_by(t, parameter.sort, kind, of)

@@ -9,12 +9,14 @@ mod statements;
 mod values;
 mod variables;
 
-pub use arguments::{called, handed_over, located_in, nothing_handed};
+pub use arguments::{called, handed_over, nothing_handed};
 pub use operators::{
-    Built, applied, begun, chain_form, function_by, one_of, operated, set_form, single_by, span_by,
+    Built, begun, chain_form, function_value, one_of, operated, set_form, single_by, span_by,
     value_form,
 };
-pub use places::{Cell, cell_at, element_of, field_of, held_at, target_of, variable_at};
+pub use places::{
+    Cell, cell_at, element_of, field_of, held_at, located_form, located_in, target_of, variable_at,
+};
 pub use sets::{allocated, turned};
 pub use statements::{assigned, changed, changed_by_one, created, disposed, note_characters};
 pub use values::{typed, typed_by};

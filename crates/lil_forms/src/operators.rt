@@ -7,7 +7,7 @@ use lil_declared::Standard;
 use lil_kinds::{Form, Found};
 use lil_resolved::{RExpr, RFunction, RMember, ROperation};
 use lil_shapes::{Members, kind_at, members_at};
-use lil_types::{TypeId, TypeTable};
+use lil_types::{CARDINAL, TypeId, TypeTable};
 use std::alloc::Global;
 
 /// A chain so far: its first operand, and the operations behind it.
@@ -133,7 +133,7 @@ pub fn set_form(t: &TypeTable, sort: TypeId, of: Option<Items<RMember>>) -> Form
 }
 
 /// A standard function of one value; VAL gives values of the type `sort`.
-pub fn function_by(t: &TypeTable, of: Standard, sort: TypeId) -> Option<RFunction>
+fn function_by(t: &TypeTable, of: Standard, sort: TypeId) -> Option<RFunction>
     ensures { result ≡ spec.function_by t.now of sort }
 {
     match of {
@@ -150,8 +150,39 @@ pub fn function_by(t: &TypeTable, of: Standard, sort: TypeId) -> Option<RFunctio
     }
 }
 
+/// HIGH of an open array.
+fn high_of(of: Form) -> Option<RExpr>
+    ensures { result ≡ spec.high_of of }
+{
+    match of {
+        Form::Open(of) => Some(RExpr::High(of.levels, of.number)),
+        rest => {
+            drop(rest);
+            None
+        }
+    }
+}
+
+/// What a standard function makes of a value; VAL gives values of the type `sort`.
+pub fn function_value(
+    alloc: Global,
+    t: &TypeTable,
+    of: Standard,
+    sort: TypeId,
+    x: Found,
+) -> Result<Option<RExpr>, Memory>
+    ensures { IfOk result (λ y. y ≡ spec.function_value t.now of sort x) }
+{
+    if of == Standard::High {
+        return Ok(high_of(x.form));
+    }
+    let function = function_by(t, of, sort);
+    let value = typed(t, CARDINAL, x);
+    applied(alloc, function, value)
+}
+
 /// A function of a value.
-pub fn applied(
+fn applied(
     alloc: Global,
     function: Option<RFunction>,
     of: Option<RExpr>,

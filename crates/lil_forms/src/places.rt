@@ -1,14 +1,15 @@
 ghost use Rattle.std.specs.Prelude.{◌≡◌, ◌-◌, IfOk, Some, None};
 ghost use Rattle.std.specs.Option.{option_copied};
+ghost use Rattle.lil_shapes.specs.Bases.{array_at};
 ghost use Rattle.lil_forms.specs.Places as spec;
 
 use crate::values::typed;
-use lil_base::{Items, Memory, beside};
+use lil_base::{Boxed, Items, Memory, beside};
 use lil_declared::{Mode, RVar};
-use lil_kinds::{Found, Located};
-use lil_resolved::{RExpr, RKind, RNamed, RPlace, RRoot, RSelector};
+use lil_kinds::{Form, Found, Located, OpenArray};
+use lil_resolved::{RExpr, RKind, RNamed, ROpening, RPlace, RRoot, RSelector};
 use lil_shapes::{ArrayParts, array_at, field_at, kind_at, target_at};
-use lil_types::{TypeId, TypeTable};
+use lil_types::{CARDINAL, TypeId, TypeTable};
 use std::alloc::Global;
 
 /// A place of a kind, and its type.
@@ -31,31 +32,71 @@ fn at_root(alloc: Global, root: RRoot, sort: TypeId) -> Located
     }
 }
 
-/// With what the place begins to which a variable leads: the variable, or what was handed in for a VAR parameter. None for an
-/// open array, and for a VAR parameter of no procedure.
-fn root_of(mode: Mode, named: RNamed) -> Option<RRoot>
-    ensures { result ≡ spec.root_of mode named }
+/// The form of a place, Nothing where there is none.
+pub fn located_form(of: Option<Located>) -> Form
+    ensures { result ≡ spec.located_form of }
 {
-    match mode {
-        Mode::Plain | Mode::Value => Some(RRoot::Variable(named)),
-        Mode::Place => match named {
-            RNamed::Module(_) => None,
-            RNamed::Level(levels, number) => Some(RRoot::Handed(levels, number)),
-        },
-        Mode::OpenValue | Mode::OpenPlace => None,
+    match of {
+        None => Form::Nothing,
+        Some(of) => Form::Located(of),
     }
 }
 
-/// Where a variable leads, by what is known of it, None where it isn't seen.
-pub fn variable_at(alloc: Global, named: RNamed, of: Option<&RVar>) -> Option<Located>
-    ensures { result ≡ spec.variable_at named (option_copied of.entry) }
+/// The place that a form is.
+pub fn located_in(of: Form) -> Option<Located>
+    ensures { result ≡ spec.located_in of }
 {
     match of {
-        None => None,
-        Some(variable) => match root_of(variable.mode, named) {
-            None => None,
-            Some(root) => Some(at_root(alloc, root, variable.sort)),
-        },
+        Form::Located(place) => Some(place),
+        rest => {
+            drop(rest);
+            None
+        }
+    }
+}
+
+/// An open array, which is a parameter of a procedure.
+fn open_form(opening: ROpening, sort: TypeId, named: RNamed) -> Form
+    ensures { result ≡ spec.open_form opening sort named }
+{
+    match named {
+        RNamed::Module(_) => Form::Nothing,
+        RNamed::Level(levels, number) => Form::Open(OpenArray {
+            opening,
+            levels,
+            number,
+            sort,
+        }),
+    }
+}
+
+/// What was handed in for a VAR parameter, which is one of a procedure.
+fn handed_form(alloc: Global, sort: TypeId, named: RNamed) -> Form
+    ensures { result ≡ spec.handed_form sort named }
+{
+    match named {
+        RNamed::Module(_) => Form::Nothing,
+        RNamed::Level(levels, number) => {
+            Form::Located(at_root(alloc, RRoot::Handed(levels, number), sort))
+        }
+    }
+}
+
+/// Where a variable leads, by what is known of it: to itself, to what was handed in, or it is an open array. Nothing where it
+/// isn't seen.
+pub fn variable_at(alloc: Global, named: RNamed, of: Option<&RVar>) -> Form
+    ensures { result ≡ spec.variable_at named (option_copied of.entry) }
+{
+    let Some(variable) = of else {
+        return Form::Nothing;
+    };
+    match variable.mode {
+        Mode::Plain | Mode::Value => {
+            Form::Located(at_root(alloc, RRoot::Variable(named), variable.sort))
+        }
+        Mode::Place => handed_form(alloc, variable.sort, named),
+        Mode::OpenValue => open_form(ROpening::Copied, variable.sort, named),
+        Mode::OpenPlace => open_form(ROpening::Lent, variable.sort, named),
     }
 }
 
@@ -132,24 +173,49 @@ fn element_by(
     element_as(of, parts.element, kind, index)
 }
 
-/// An element by an index, None where the place is no array.
-pub fn element_of(
-    t: &TypeTable,
-    index: Found,
-    of: Option<Located>,
+/// An element along an open array, by a CARDINAL.
+fn element_along(
+    alloc: Global,
+    of: OpenArray,
+    index: Option<RExpr>,
 ) -> Result<Option<Located>, Memory>
-    ensures { IfOk result (λ p. p ≡ spec.element_of t.now index of) }
+    ensures { IfOk result (λ p. p ≡ spec.element_along of index) }
 {
-    let Some(of) = of else {
-        drop(index);
+    let Some(index) = index else {
         return Ok(None);
     };
+    let root = RRoot::Along(of.levels, of.number, Boxed::new(alloc, index)?);
+    Ok(Some(at_root(alloc, root, of.sort)))
+}
+
+fn element_in(t: &TypeTable, index: Found, of: Located) -> Result<Option<Located>, Memory>
+    ensures { IfOk result (λ p. p ≡ spec.element_by t.now index of (array_at t.now of.sort)) }
+{
     match array_at(t, of.sort) {
         None => {
             drop((of, index));
             Ok(None)
         }
         Some(parts) => element_by(t, index, of, parts),
+    }
+}
+
+/// An element by an index, None where the form is no array.
+pub fn element_of(
+    alloc: Global,
+    t: &TypeTable,
+    index: Found,
+    of: Form,
+) -> Result<Option<Located>, Memory>
+    ensures { IfOk result (λ p. p ≡ spec.element_of t.now index of) }
+{
+    match of {
+        Form::Located(of) => element_in(t, index, of),
+        Form::Open(of) => element_along(alloc, of, typed(t, CARDINAL, index)),
+        rest => {
+            drop((rest, index));
+            Ok(None)
+        }
     }
 }
 

@@ -41,7 +41,7 @@ fn own(t: &TypeTable, of: Form) -> Option<RExpr>
             drop(text);
             None
         }
-        Form::Nothing => None,
+        Form::Nothing | Form::Open(_) => None,
     }
 }
 

@@ -1,5 +1,5 @@
 use lil_base::{Place, Shared, Text};
-use lil_resolved::{RExpr, RPlace};
+use lil_resolved::{RExpr, ROpening, RPlace};
 use lil_scope::Kind;
 use lil_types::TypeId;
 
@@ -19,13 +19,24 @@ pub struct Located {
     pub sort: TypeId,
 }
 
+/// An open array as a whole, which is a parameter: whether it is copied, how many levels out its procedure is, its number among
+/// that one's variables, and the type of its elements.
+#[derive(Clone, Copy)]
+pub struct OpenArray {
+    pub opening: ROpening,
+    pub levels: u8,
+    pub number: usize,
+    pub sort: TypeId,
+}
+
 /// What is done to have the value of an expression: nothing, where it is a constant of which all is known, and where its
-/// form has no code; a string's characters are taken; the value at a place; or what is computed.
+/// form has no code; a string's characters are taken; the value at a place; an open array, which has none; or what is computed.
 #[derive(Drop)]
 pub enum Form {
     Nothing,
     Text(Shared<Text>),
     Located(Located),
+    Open(OpenArray),
     Value(RExpr),
 }
 

@@ -11,6 +11,6 @@ pub use forms::{
     is_opaque, is_record, is_routine, parameter, parameters, result, set_base, shape, span_of,
     target,
 };
-pub use found::{Applied, Form, Found, Located, Standing};
+pub use found::{Applied, Form, Found, Located, OpenArray, Standing};
 pub use operators::{extreme, function, one, operand_type, two};
 pub use relations::{assignable, compatible, is_constant, is_ordinal, misses, number, outside};

@@ -83,3 +83,4 @@ small_declared ts v h = by v.passing (shape_at (shapes_of ts) v.shape) (small_at
     by : (p : RPassing) (t : Shape) → words t ≤ 32000 → words (held_by p t) ≤ 32000
     by p.ByValue t h = h
     by p.ByPlace t h = omega arith
+    by (p.Open o) t h = omega arith

@@ -1,14 +1,14 @@
 -- One step of the source, from any matched state.
 use Rattle.std.proofs.Common.{◌≡◌, ℕ, ◌+◌, true, false, List, [], ◌∷◌, refl, sym, ◌⊎◌, ⊎_elim, arith}
 use Rattle.std.specs.Prelude.{ℤ}
-use Rattle.lil_resolved.specs.{Kinds.{Kind, Scalar, within}, Resolved.{Named, Designator, Variable, Handed, Held, Field, Element, Follow, Expression, Constant, Taken, One, Two, Short, Apply, With, WithSpan, Invoke, Assign, Copy, Text, Inside, Change, Member, New, Allocate, Request, If, Case, While, Repeat, Loop, Exit, Halt, Return, Answer, Call, For, Statements, Argument, Arguments, NoMore, Also}}
-use Rattle.lil_meaning.specs.Items.{Place, Scalars, Places, Wholes, Opens, Texts, Hole, Get, Part, IndexBy, IndexAt, Pointed, SetTo, StoreAt, CopyTo, CopyFrom, TextTo, NewAt, AllocateBy, AllocateAt, ChangeBy, ChangeAt, OneOf, LeftOf, RightOf, ShortOf, ApplyTo, WithMember, MemberOf, WithMembers, MembersFrom, MembersTo, MemberBy, MemberAt, Requested, Called, Datum, Pass, PassPlace, PassAll, Returning, PassArray, Choose, Turn, Again, Pick, Hold, StartOf, LimitOf, Task, Do, Passing, Until, Looping, Turns, Holding, End, Item, Value, Evaluate, PlaceOf, Fill, Perform, Source}
+use Rattle.lil_resolved.specs.{Kinds.{Kind, Scalar, within}, Resolved.{Named, Designator, Variable, Handed, Along, Held, Field, Element, Follow, Expression, Constant, Taken, One, Two, Short, Apply, With, WithSpan, Invoke, High, Assign, Copy, Text, Inside, Change, Member, New, Allocate, Request, If, Case, While, Repeat, Loop, Exit, Halt, Return, Answer, Call, For, Statements, Arguments, NoMore, Also}}
+use Rattle.lil_meaning.specs.Items.{Place, Scalars, Places, Wholes, Opens, Texts, Hole, Get, Part, IndexBy, IndexAt, AlongAt, Pointed, SetTo, StoreAt, CopyTo, CopyFrom, TextTo, NewAt, AllocateBy, AllocateAt, ChangeBy, ChangeAt, OneOf, LeftOf, RightOf, ShortOf, ApplyTo, WithMember, MemberOf, WithMembers, MembersFrom, MembersTo, MemberBy, MemberAt, Requested, Called, Datum, Pass, PassPlace, PassAll, Returning, PassArray, Choose, Turn, Again, Pick, Hold, StartOf, LimitOf, Task, Do, Passing, Until, Looping, Turns, Holding, End, Item, Value, Evaluate, PlaceOf, Fill, Perform, Source}
 use Rattle.lil_mcode.specs.Table.{State, going}
 use Rattle.lil_match.specs.{Homes.{word_for, Refers}, Goes.{Shared, Goes}, Waits.{Setting, frame_of, Mode, Quiet, ValueOf, AtPlace, Around, Reach, AfterJumps, BeginWaits, NextWaits, ItemWaits, PendingWaits, RowsOf, Rows, Ahead, Designates, Waiting}, Steps.jumped}
-use Rattle.lil_laws_place.specs.Elements.{variable_goes, handed_goes, held_goes, field_goes, element_goes, follow_goes, pointed_goes, part_goes, index_by_goes, index_at_goes}
+use Rattle.lil_laws_place.specs.{Elements.{variable_goes, handed_goes, held_goes, field_goes, element_goes, follow_goes, pointed_goes, part_goes, index_by_goes, index_at_goes}, Opens.{along_goes, along_at_goes, high_goes}}
 use Rattle.lil_laws_expr.specs.{Expressions.{constant_goes, taken_goes, one_goes, two_goes, short_begins, apply_goes, get_goes, one_of_goes, left_goes, right_goes, short_of_goes, apply_of_goes}, Sets.{with_goes, with_span_goes, with_member_goes, member_of_goes, with_members_goes, members_from_goes, members_to_goes}}
 use Rattle.lil_laws_stmt.specs.{Tasks.{copy_goes, copy_to_goes, copy_from_goes, assign_goes, set_goes, store_goes}, Requests.{request_goes, passing_goes, pass_goes, pass_array_goes, serve_goes}, Strings.{text_goes, text_to_goes}, News.{new_goes, new_at_goes}, Withs.{inside_goes, hold_goes, holding_goes}}
-use Rattle.lil_laws_stmt.specs.{Control.{if_goes, choose_goes, while_goes, turn_goes, repeat_goes, until_goes, again_goes, loop_goes, looping_goes}, Changes.{change_goes, change_by_goes, change_at_goes}, Exits.exit_goes, Calls.{call_goes, invoke_goes, argument_goes, given_goes, given_place_goes, given_all_goes}, Enters.enter_goes, Members.{member_goes, member_by_goes, member_at_goes}, Ends.{halt_goes, return_goes, end_goes, returning_goes, answer_goes, ended_goes}}
+use Rattle.lil_laws_stmt.specs.{Control.{if_goes, choose_goes, while_goes, turn_goes, repeat_goes, until_goes, again_goes, loop_goes, looping_goes}, Changes.{change_goes, change_by_goes, change_at_goes}, Exits.exit_goes, Calls.{call_goes, invoke_goes, argument_goes, given_goes, given_place_goes, given_all_goes, given_array_goes}, Enters.enter_goes, Members.{member_goes, member_by_goes, member_at_goes}, Ends.{halt_goes, return_goes, end_goes, returning_goes, answer_goes, ended_goes}}
 use Rattle.lil_laws_stmt.specs.{Allocations.{allocate_goes, allocate_by_goes, allocate_at_goes, deallocate_at_goes}, Cases.{case_goes, pick_goes}, Fors.{for_goes, start_goes, limit_goes, next_goes}, Begins.begin_goes}
 
 value_quiet : (k : Kind) → ValueOf k ≡ Quiet → ⊥
@@ -29,6 +29,7 @@ module _ (ctx : Setting) where
     scalar_step : (v : Scalar) (o : Hole) (kind : Kind) → within kind v ≡ true → Refers h kind v → (below : List ℕ) → m.stack ≡ word_for h v ∷ below
         → ItemWaits ctx (Fill o) k (RowsOf k) (ValueOf kind) m.place below c a → Goes ctx s (Value (Scalars v) ∷ Fill o ∷ k) m (c + 32)
     scalar_step v (IndexAt place j) kind fits refers below is r = index_at_goes ctx s k m c a shared place j v kind fits below is r
+    scalar_step v (AlongAt place high) kind fits refers below is r = along_at_goes ctx s k m c a shared place high v kind fits below is r
     scalar_step v (StoreAt place j) kind fits refers below is r = store_goes ctx s k m c a shared place j v kind fits refers below is r
     scalar_step v (ChangeAt down place j) kind fits refers below is r = change_at_goes ctx s k m c a shared down place j v kind fits below is r
     scalar_step v (OneOf o j) kind fits refers below is r = one_of_goes ctx s k m c a shared o j v kind fits below is r
@@ -48,6 +49,7 @@ module _ (ctx : Setting) where
     scalar_step v (Pass (Called x n) j done left) kind fits refers below is r = given_goes ctx s k m c a shared x n j done left v kind fits refers below is r
     scalar_step v (PassPlace (Called x n) done left) kind fits refers below is r = absurd (value_place kind r.of r.mode)
     scalar_step v (PassAll (Called x n) done left) kind fits refers below is r = absurd (value_place kind r.of r.mode)
+    scalar_step v (PassArray (Called x n) high done left) kind fits refers below is r = absurd (value_place kind r.of r.mode)
     scalar_step v (Returning to) kind fits refers below is r = returning_goes ctx s k m c a shared to v kind fits refers below is r
     scalar_step v (Choose first second) kind fits refers below is r = choose_goes ctx s k m c a shared first second v kind fits below is r
     scalar_step v (Turn e body) kind fits refers below is r = turn_goes ctx s k m c a shared e body v kind fits below is r
@@ -73,6 +75,7 @@ module _ (ctx : Setting) where
     place_step place (PassArray (Requested q) high done left) d below has r = pass_array_goes ctx s k m c a shared q high done left place d below has r
     place_step place (PassPlace (Called x n) done left) d below has r = given_place_goes ctx s k m c a shared x n done left place d below has r
     place_step place (PassAll (Called x n) done left) d below has r = given_all_goes ctx s k m c a shared x n done left place d below has r
+    place_step place (PassArray (Called x n) high done left) d below has r = given_array_goes ctx s k m c a shared x n high done left place d below has r
     place_step place (Pass (Called x n) j done left) d below has r = absurd (value_place r.from d (sym r.mode))
     place_step place (Hold body) d below has r = hold_goes ctx s k m c a shared body place d below has r
     place_step place (MemberBy out j e) d below has r = member_by_goes ctx s k m c a shared out j e place d below has r
@@ -82,6 +85,7 @@ module _ (ctx : Setting) where
     designator_step : (d : Designator) → Waiting ctx (PlaceOf d) (Rows ctx k) Quiet m.place m.stack c a → Goes ctx s (PlaceOf d ∷ k) m (c + 32)
     designator_step (Variable x) r = variable_goes ctx s k m c a shared x r
     designator_step (Handed n x) r = handed_goes ctx s k m c a shared n x r
+    designator_step (Along n x e) r = along_goes ctx s k m c a shared n x e r
     designator_step (Held w) r = held_goes ctx s k m c a shared w r
     designator_step (Field d i) r = field_goes ctx s k m c a shared d i r
     designator_step (Element d kind e) r = element_goes ctx s k m c a shared d kind e r
@@ -97,6 +101,7 @@ module _ (ctx : Setting) where
     expression_step (With e kind f) r = with_goes ctx s k m c a shared e kind f r
     expression_step (WithSpan e kind f g) r = with_span_goes ctx s k m c a shared e kind f g r
     expression_step (Invoke x n kind given) r = invoke_goes ctx s k m c a shared x n kind given r
+    expression_step (High n x) r = high_goes ctx s k m c a shared n x r
 
     task_step : (t : Task) → ItemWaits ctx (Perform t) k (RowsOf k) Quiet m.place m.stack c a → Goes ctx s (Perform t ∷ k) m (c + 32)
     task_step (Do (Assign d kind e)) r = assign_goes ctx s k m c a shared d kind e r
@@ -177,6 +182,7 @@ module _ (ctx : Setting) where
   item_step s m c a shared (Fill (Pass (Called x n) j done left)) k r = absurd (value_quiet r.from (sym r.mode))
   item_step s m c a shared (Fill (PassPlace (Called x n) done left)) k r = absurd (place_quiet r.of (sym r.mode))
   item_step s m c a shared (Fill (PassAll (Called x n) done left)) k r = absurd (place_quiet r.of (sym r.mode))
+  item_step s m c a shared (Fill (PassArray (Called x n) high done left)) k r = absurd (place_quiet r.of (sym r.mode))
   item_step s m c a shared (Fill o) k r = absurd r.part
   item_step s m c a shared (Perform t) k r = task_step s k m c a shared t r
   item_step s m c a shared _ _ r = absurd r.then

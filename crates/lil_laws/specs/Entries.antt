@@ -1,5 +1,5 @@
 -- Each procedure has its code at its entry in the table, and no other one begins in it.
-use Rattle.std.proofs.Common.{◌≡◌, ℕ, zero, suc, ◌+◌, ◌<◌, ◌≤◌, ◌⊎◌, inl, inr, Option, Some, None, List, [], ◌∷◌, length, get_or, refl, sym, ap, subst, ⊎_elim, arith}
+use Rattle.std.proofs.Common.{◌≡◌, ℕ, zero, suc, ◌+◌, ◌<◌, ◌≤◌, ◌⊎◌, inl, inr, Option, Some, None, List, [], ◌∷◌, length, take, get_or, refl, sym, ap, subst, ⊎_elim, arith}
 use Rattle.std.specs.{Prelude.{slice_get}, List.All}
 use Rattle.std.proofs.lemmas.Option.{none-some, same_Some}
 use Rattle.lil_resolved.specs.Resolved.{Procedure, Resolved, procedure_by}
@@ -17,7 +17,7 @@ module _ (strings : List ℕ) (text : Resolved) (code : List ℕ) where
     pub entry : ℕ
     pub there : slice_get table i ≡ Some (entry, Some its.name)
     pub after : ℕ
-    pub row : StretchRow (in_procedure l p its) code its.result its.locals its.body entry after
+    pub row : StretchRow (in_procedure l p its) code its.result its.locals (take its.parameters its.locals) its.body entry after
     pub begins : low ≤ entry
     pub ends : after ≤ high
     pub apart : IsApart table i entry after
@@ -28,7 +28,7 @@ module _ (strings : List ℕ) (text : Resolved) (code : List ℕ) where
   entries_between n (a ∷ ps) [] p q h k e name is = absurd h
   entries_between n (a ∷ ps) (f ∷ es) p q h zero e name is = let same : f ≡ e = ap (λ (x : ℕ × Option (List ℕ)). x.0) (same_Some (f, Some a.name) (e, name) is) in omega (arith, same, h.0)
   entries_between n (a ∷ ps) (f ∷ es) p q h (suc k) e name is =
-      omega (arith, framed_long _ _ a.result a.locals a.body p h.1.middle h.1.here, entries_between (suc n) ps es h.1.middle q h.1.then k e name is)
+      omega (arith, framed_long _ _ a.result a.locals (take a.parameters a.locals) a.body p h.1.middle h.1.here, entries_between (suc n) ps es h.1.middle q h.1.then k e name is)
 
   -- behind a first one
   behind_first : (n : ℕ) (a : Procedure) (ps : List Procedure) (e : ℕ) (es : List ℕ) (p q : ℕ) (h : ProceduresAt l code n (a ∷ ps) (e ∷ es) p q) (i : ℕ) (its : Procedure)
@@ -37,8 +37,8 @@ module _ (strings : List ℕ) (text : Resolved) (code : List ℕ) where
     entry = rest.entry;
     there = rest.there;
     after = rest.after;
-    row = let next : suc n + i ≡ n + suc i = omega arith in subst (λ (k : ℕ). StretchRow (in_procedure l k its) code its.result its.locals its.body rest.entry rest.after) next rest.row;
-    begins = omega (arith, framed_long _ _ a.result a.locals a.body p h.1.middle h.1.here, rest.begins);
+    row = let next : suc n + i ≡ n + suc i = omega arith in subst (λ (k : ℕ). StretchRow (in_procedure l k its) code its.result its.locals (take its.parameters its.locals) its.body rest.entry rest.after) next rest.row;
+    begins = omega (arith, framed_long _ _ a.result a.locals (take a.parameters a.locals) a.body p h.1.middle h.1.here, rest.begins);
     ends = rest.ends;
     apart = apart;
   }
@@ -46,7 +46,7 @@ module _ (strings : List ℕ) (text : Resolved) (code : List ℕ) where
       apart : IsApart (named_entries (a ∷ ps) (e ∷ es)) (suc i) rest.entry rest.after
       apart zero f name is =
           let same : e ≡ f = ap (λ (x : ℕ × Option (List ℕ)). x.0) (same_Some (e, Some a.name) (f, name) is) in
-          inr (inl (omega (arith, same, h.0, framed_long _ _ a.result a.locals a.body p h.1.middle h.1.here, rest.begins)))
+          inr (inl (omega (arith, same, h.0, framed_long _ _ a.result a.locals (take a.parameters a.locals) a.body p h.1.middle h.1.here, rest.begins)))
       apart (suc k) f name is = ⊎_elim (λ (s : k ≡ i). inl (ap suc s)) (λ (o : (f < rest.entry) ⊎ (rest.after ≤ f)). inr o) (rest.apart k f name is)
 
   stands_at : (n : ℕ) (ps : List Procedure) (es : List ℕ) (p q : ℕ) → ProceduresAt l code n ps es p q → (i : ℕ) (its : Procedure) → slice_get ps i ≡ Some its → StandsAt (named_entries ps es) i (n + i) its p q
@@ -54,14 +54,14 @@ module _ (strings : List ℕ) (text : Resolved) (code : List ℕ) where
   stands_at n (a ∷ ps) [] p q h i its is = absurd h
   stands_at n (a ∷ ps) (e ∷ es) p q h zero its is =
       let first : n ≡ n + 0 = omega arith in
-      let long = framed_long _ _ a.result a.locals a.body p h.1.middle h.1.here in
+      let long = framed_long _ _ a.result a.locals (take a.parameters a.locals) a.body p h.1.middle h.1.here in
       subst (λ (k : ℕ). StandsAt (named_entries (a ∷ ps) (e ∷ es)) 0 k its p q) first
       (subst (λ (x : Procedure). StandsAt (named_entries (a ∷ ps) (e ∷ es)) 0 n x p q) (same_Some a its is)
       (record {
         entry = e;
         there = refl;
         after = h.1.middle;
-        row = subst (λ (x : ℕ). StretchRow (in_procedure l n a) code a.result a.locals a.body x h.1.middle) (sym h.0) h.1.here;
+        row = subst (λ (x : ℕ). StretchRow (in_procedure l n a) code a.result a.locals (take a.parameters a.locals) a.body x h.1.middle) (sym h.0) h.1.here;
         begins = omega (arith, h.0);
         ends = omega (arith, procedures_long l code (suc n) ps es h.1.middle q h.1.then);
         apart = apart;
@@ -75,7 +75,7 @@ module _ (strings : List ℕ) (text : Resolved) (code : List ℕ) where
 -- ---- the body, and the procedures behind it
 module _ (o : Compiled) where
   body_long : 4 ≤ o.translates.middle
-  body_long = omega (arith, framed_long _ _ None [] o.text.body 0 o.translates.middle o.translates.body)
+  body_long = omega (arith, framed_long _ _ None [] [] o.text.body 0 o.translates.middle o.translates.body)
 
   pub body_within : o.translates.middle ≤ length o.code
   body_within = omega (arith, procedures_long (layout_of o.strings o.text) o.code 1 o.text.procedures o.entries o.translates.middle (length o.code) o.translates.procedures)
@@ -90,7 +90,7 @@ module _ (o : Compiled) where
     pub after : ℕ
     pub within : after ≤ length o.code
     pub apart : IsApart (procedure_table o.text o.entries) p entry after
-    pub row : StretchRow (in_procedure (layout_of o.strings o.text) p its) o.code its.result its.locals its.body entry after
+    pub row : StretchRow (in_procedure (layout_of o.strings o.text) p its) o.code its.result its.locals (take its.parameters its.locals) its.body entry after
 
   pub entry_row : (p : ℕ) (its : Procedure) → procedure_by o.text.procedures p ≡ Some its → EntryRow p its
   entry_row zero its is = absurd (none-some its is)
@@ -100,7 +100,7 @@ module _ (o : Compiled) where
     after = r.after;
     within = r.ends;
     apart = apart;
-    row = let next : 1 + p ≡ suc p = omega arith in subst (λ (k : ℕ). StretchRow (in_procedure (layout_of o.strings o.text) k its) o.code its.result its.locals its.body r.entry r.after) next r.row;
+    row = let next : 1 + p ≡ suc p = omega arith in subst (λ (k : ℕ). StretchRow (in_procedure (layout_of o.strings o.text) k its) o.code its.result its.locals (take its.parameters its.locals) its.body r.entry r.after) next r.row;
   }
     where
       r : StandsAt o.strings o.text o.code (named_entries o.text.procedures o.entries) p (1 + p) its o.translates.middle (length o.code)
@@ -126,7 +126,7 @@ entries_many m strings entries code t = as_many (layout_of strings m) code 1 m.p
 low_entries : (l : Layout) (exact : (n : ℕ) → l.target n ≡ n) (code : List ℕ) (n : ℕ) (ps : List Procedure) (es : List ℕ) (p q : ℕ) → ProceduresAt l code n ps es p q → (k d : ℕ) → k < length es → get_or es k d < q
 low_entries l exact code n [] [] p q h k d less = absurd (omega (arith, less))
 low_entries l exact code n (a ∷ ps) (e ∷ es) p q h zero d less =
-    omega (arith, h.0, exact p, framed_long _ _ a.result a.locals a.body p h.1.middle h.1.here, procedures_long l code (suc n) ps es h.1.middle q h.1.then)
+    omega (arith, h.0, exact p, framed_long _ _ a.result a.locals (take a.parameters a.locals) a.body p h.1.middle h.1.here, procedures_long l code (suc n) ps es h.1.middle q h.1.then)
 low_entries l exact code n (a ∷ ps) (e ∷ es) p q h (suc k) d less = low_entries l exact code (suc n) ps es h.1.middle q h.1.then k d (omega (arith, less))
 low_entries l exact code n [] (e ∷ es) p q h k d less = absurd h
 low_entries l exact code n (a ∷ ps) [] p q h k d less = absurd h

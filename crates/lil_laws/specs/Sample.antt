@@ -27,6 +27,8 @@ unfolding decoded row_6 row_7
 translates = record {
   middle = 10;
   body = record {
+    begun = 3;
+    copies = refl;
     start = 3;
     end = 9;
     enter = refl;
@@ -42,6 +44,8 @@ translates = record {
     record {
       middle = 20;
       here = record {
+        begun = 13;
+        copies = refl;
         start = 13;
         end = 19;
         enter = refl;
@@ -57,6 +61,8 @@ translates = record {
         record {
           middle = 26;
           here = record {
+            begun = 23;
+            copies = refl;
             start = 23;
             end = 25;
             enter = refl;

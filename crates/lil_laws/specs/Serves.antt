@@ -1,11 +1,11 @@
 -- What one step of the meaning changes of the world, of the levels and of the activations.
 use Rattle.std.proofs.Common.{◌≡◌, ◌⊎◌, inl, inr, ℕ, zero, suc, Bool, true, false, if◌then◌else◌, List, [], ◌∷◌, Result, Ok, Err, Option, Some, None, length, ◌≤◌, refl, sym, ap, arith, ◌∙◌, option_and_then}
-use Rattle.std.specs.Prelude.{ℤ, map, slice_get}
-use Rattle.lil_base.specs.{Words.Cardinal, declared.fault.{TrapKind.TrapKind, TrapAt.TrapAt}}
+use Rattle.std.specs.Prelude.{ℤ, pos, map, slice_get}
+use Rattle.lil_base.specs.{Words.{Cardinal, between}, declared.fault.{TrapKind.TrapKind, TrapAt.TrapAt}}
 use Rattle.lil_base.specs.declared.request.Request as request
-use Rattle.lil_resolved.specs.{Kinds.{Kind, OfWhole, nat_of, Scalar, ToObject, within, value_with, ordinal_of}, Resolved.{Named, OfLevel, Designator, Variable, Handed, Held, Expression, Taken, Argument, Arguments, NoMore, Also, ByValue, OfPlace, OfAll, OfArray, OfText, Statement, Exit, Statements, Procedure, procedure_by, Resolved, counted_as}}
-use Rattle.lil_meaning.specs.{Items.{Place, got, loaded_at, Receiver, Requested, Called, Datum, Scalars, Places, Hole, Get, StoreAt, ChangeAt, OneOf, RightOf, ApplyTo, Pass, Returning, End, Pick, Task, Do, Passing, Item, Value, Evaluate, PlaceOf, Fill, Perform, Activation, Level, Phase, Going, Closing, Source}, Need.HasCalls, World.{World, Given, serve, closing}}
-use Rattle.lil_meaning.specs.Steps.{next, end_reached, activation_result, by_phase, first, given, fill, filled, filled_place, pointed, performed, did, entered, owner_of, procedures_of, current, turned_at, turned_with, turned_on, variable_place, picked, allocated, found_at, placed, received, passed_on, evaluated, answered, applied, one_applied, function_value, chosen, stored_with, value_of, changed, whole_of, given_of, level_of, over, left_by, leave}
+use Rattle.lil_resolved.specs.{Kinds.{Kind, OfWhole, nat_of, Scalar, ToObject, within, value_with, ordinal_of}, Resolved.{Named, OfLevel, Designator, Variable, Handed, Along, Held, Expression, Taken, High, Arguments, NoMore, Also, ByValue, OfPlace, OfAll, OfArray, OfText, OfOpened, Statement, Exit, Statements, Procedure, procedure_by, Resolved, counted_as}}
+use Rattle.lil_meaning.specs.{Items.{Place, got, loaded_at, Receiver, Requested, Called, Datum, Scalars, Places, Hole, Get, AlongAt, StoreAt, ChangeAt, OneOf, RightOf, ApplyTo, Pass, Returning, End, Pick, Task, Do, Passing, Item, Value, Evaluate, PlaceOf, Fill, Perform, Activation, Level, Phase, Going, Closing, Source}, Need.HasCalls, World.{World, Given, serve, closing}}
+use Rattle.lil_meaning.specs.Steps.{next, end_reached, activation_result, by_phase, first, given, fill, filled, filled_place, pointed, performed, did, entered, owner_of, procedures_of, current, turned_at, turned_with, turned_on, variable_place, array_of, indexed, measured, handed_on, picked, allocated, found_at, placed, received, passed_on, evaluated, answered, applied, one_applied, function_value, chosen, stored_with, value_of, changed, whole_of, given_of, level_of, over, left_by, leave}
 use Rattle.lil_meaning.specs.Runs.{after}
 use Rattle.lil_meaning.specs.Items as items
 
@@ -68,6 +68,7 @@ module _ (library : List Resolved) (s : Source) where
 
   filled_serves : (h : Hole) (v : Scalar) (k : List Item) → Serves library s (filled library h v k s)
   filled_serves (items.IndexAt p kind) v k = choice_serves s (within kind v) _ _ (still refl refl refl) (still refl refl refl)
+  filled_serves (AlongAt p high) v k = choice_serves s (between (pos 0) (ordinal_of v) (pos high)) _ _ (still refl refl refl) (still refl refl refl)
   filled_serves (StoreAt p kind) v k = choice_serves s (within kind v) _ _ (still refl refl refl) (still refl refl refl)
   filled_serves (ChangeAt down p kind) v k = stored_serves p (value_of kind (changed down (counted_as kind) (ordinal_of (got s.cells p)) (whole_of v))) k
   filled_serves (OneOf o kind) v k = answered_serves (one_applied o kind v) k
@@ -111,13 +112,26 @@ module _ (library : List Resolved) (s : Source) where
       let here : ℕ = owner_of (slice_get s.activations (current k)) in
       entered_serves (procedure_by (procedures_of (loaded_at library s.loaded here)) p) _ done k (λ bare. ap (λ (ps : List Procedure). procedure_by ps p) (bare s.loaded here) ∙ none_by p)
 
+  handed_serves : (o : Option (Place × ℕ)) (r : Receiver) (done : List Datum) (left : Arguments) (k : List Item) → Serves library s (handed_on o r done left k s)
+  handed_serves None r done left k = still refl refl refl
+  handed_serves (Some o) r done left k = still refl refl refl
+
+  indexed_serves : (o : Option (Place × ℕ)) (e : Expression) (k : List Item) → Serves library s (indexed o e k s)
+  indexed_serves None e k = still refl refl refl
+  indexed_serves (Some o) e k = still refl refl refl
+
+  measured_serves : (o : Option (Place × ℕ)) (k : List Item) → Serves library s (measured o k s)
+  measured_serves None k = still refl refl refl
+  measured_serves (Some o) k = still refl refl refl
+
   passed_serves : (r : Receiver) (done : List Datum) (left : Arguments) (k : List Item) → Serves library s (passed_on library r done left k s)
   passed_serves r done NoMore k = received_serves r done k
   passed_serves r done (Also (ByValue kind e) left) k = still refl refl refl
   passed_serves r done (Also (OfPlace d) left) k = still refl refl refl
   passed_serves r done (Also (OfAll d) left) k = still refl refl refl
-  passed_serves r done (Also (OfArray d high) left) k = still refl refl refl
+  passed_serves r done (Also (OfArray copied d high) left) k = still refl refl refl
   passed_serves r done (Also (OfText cs) left) k = still refl refl refl
+  passed_serves r done (Also (OfOpened copied n x) left) k = handed_serves (array_of s n x) r done left k
 
   ended_serves : (o : Option Kind) (k : List Item) → Serves library s (end_reached library o k s)
   ended_serves None k = still refl refl refl
@@ -136,6 +150,7 @@ module _ (library : List Resolved) (s : Source) where
 
   evaluated_serves : (e : Expression) (k : List Item) → Serves library s (evaluated e k s)
   evaluated_serves (Taken d kind) k = still refl refl refl
+  evaluated_serves (High n x) k = measured_serves (array_of s n x) k
   evaluated_serves _ k = still refl refl refl
 
   found_serves : (o : Option Place) (k : List Item) → Serves library s (found_at o k s)
@@ -145,6 +160,7 @@ module _ (library : List Resolved) (s : Source) where
   placed_serves : (d : Designator) (k : List Item) → Serves library s (placed d k s)
   placed_serves (Variable v) k = found_serves (variable_place s v) k
   placed_serves (Handed n x) k = found_serves (variable_place s (OfLevel n x)) k
+  placed_serves (Along n x e) k = indexed_serves (array_of s n x) e k
   placed_serves (Held w) k = found_serves _ k
   placed_serves _ k = still refl refl refl
 

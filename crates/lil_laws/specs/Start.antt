@@ -8,7 +8,8 @@ use Rattle.lil_meaning.specs.{Items.{loaded_at, variables_of, targets_of, Item, 
 use Rattle.lil_asm.specs.{declared.instr.Instr.TheVariants.{Rtn}, Stretches.{stretch, decoded_inside}}
 use Rattle.lil_mcode.specs.{declared.machine.Event.TheVariants.Went, Table.{State, enter_row, fetched, performed}}
 use Rattle.lil_frames.specs.Words.{zeros, cleared}
-use Rattle.lil_table.specs.Rows.{framed, in_procedure, layout_of}
+use Rattle.lil_asm.specs.declared.instr.Instr.TheVariants.{Ent}
+use Rattle.lil_table.specs.Rows.{IsAt, framed, in_procedure, layout_of}
 use Rattle.lil_match.specs.{Goes.{IsKnown, EachComes, HasLocals, EachLocal, Shared}, Running.{Run, mrun, running, advanced}, Parts.no, Homes.Home, Waits.{Frame, is_of, Setting, Quiet, outside, RowsOf, Rows, Ahead, Behind}, Steps.{advances, at_once, rows_ahead}, Orders.instr_within, Splices.{spliced_length, spliced_before, zeros_length}}
 use Rattle.lil_laws_stmt.specs.Control.{body_rows}
 use Rattle.lil_laws.specs.{Loading.{Compiled, text_of, data_end, entry_for, table_from, numbers_from, data_placed, image}, Placing.{place_from, variable_from, text_at, table_there, variable_offset, HasData, data_length, has_data, string_fixed, strings_low, home, above, owner_own, owner_free, mem}}
@@ -36,6 +37,7 @@ module _ (os : List Compiled) where
     layout = layout_of b.its.strings b.its.text;
     at = data_end 1 os;
     pushed = 0;
+    copied = 0;
     display = [];
     back = 0;
   }
@@ -89,7 +91,7 @@ module _ (os : List Compiled) where
           bare = refl;
           idle = refl;
           start = c.its.translates.body.start;
-          enter = c.its.translates.body.enter;
+          enter = subst (λ (q : ℕ). IsAt (frame_for (suc a) c).piece 0 (Ent (framed (frame_words [] c.its.text.body))) q) c.its.translates.body.copies c.its.translates.body.enter;
           then = rows_of (suc a) c bs;
         })
 
@@ -112,6 +114,7 @@ module _ (os : List Compiled) where
       entered = record { there = refl; apart = body_apart b.its };
       piece = record { is = refl; within = body_within b.its };
       size = sym (ap (λ (m : Option Resolved). frame_of m 0) (text b));
+      copies = refl;
       returns = ap (λ (m : Option Resolved). result_by m 0) (sym (text b));
       procedures = ap (λ (m : Option Resolved). map outline_of (procedures_of m)) (sym (text b));
       codes = λ p q there.
@@ -246,7 +249,7 @@ module _ (os : List Compiled) (targets : List Shape) (same : Pointing os targets
       stands = (record { mark = omega arith; top_is = omega arith; own = λ i free l. owner_own targets os size entered (end + i) (omega arith) (omega (arith, l)); mine = λ i l. inl (owner_own targets os size entered (end + i) (omega arith) (omega (arith, l))) }, refl);
       links = refl;
       locals = each_bare os targets same (body_activations order) size entered (omega (arith, room)) placed 0 (b ∷ bs) (λ i. ap (slice_get (body_activations order)) (let e : 0 + i ≡ i = omega arith in e));
-      handed = (λ y o t at. absurd (none-some o at), tt);
+      handed = (λ y o t at. absurd (none-some o at), λ y o copied t at. absurd (none-some o at), tt);
       room = λ a from below. owner_free targets os size entered a (omega (arith, from));
       based = above targets os size entered;
       low = omega (arith, room);
@@ -269,7 +272,8 @@ module _ (os : List Compiled) (targets : List Shape) (same : Pointing os targets
       advances begins w (Went, entered_at) (
       ap (fetched begins) (table_there 1 os b.index b.its b.there)
       ∙ ap (performed begins (entry_for b.its (place_from 1 os b.index))) (decoded_inside 0 b.its.translates.middle b.its.code 0 _ (body_within b.its) b.its.translates.body.enter).there
-      ∙ ap (λ (n : ℕ). enter_row n b.its.translates.body.start begins) (let e : framed size ≡ size = omega (arith, room) in e)
+      ∙ ap (λ (n : ℕ). enter_row n b.its.translates.body.begun begins) (let e : framed size ≡ size = omega (arith, room) in e)
+      ∙ ap (λ (q : ℕ). enter_row size q begins) b.its.translates.body.copies
       ∙ no _ _ _ (le-ltb (end + size) (end + 4) (omega arith))
       ∙ no _ _ _ (le-ltb 65535 (end + size) room)
       )

@@ -3,14 +3,14 @@ use Rattle.lil_resolved.specs.Kinds.{Pointee, OfPointer, stores_value, same_poin
 use Rattle.lil_match.specs.Homes.{plain_word, plain_refers, takes_plain}
 use Rattle.lil_match.specs.Ranges.{pointers_same}
 use Rattle.std.specs.Prelude.{◌||◌}
-use Rattle.std.proofs.Common.{◌≡◌, ℕ, zero, suc, Some, ◌+◌, ◌≤◌, Bool, true, false, cond, List, [], ◌∷◌, set, refl, sym, ap, ◌∙◌, subst, arith, ◌-◌, ◌++◌, length, get_or, take, drop}
+use Rattle.std.proofs.Common.{◌≡◌, ℕ, zero, suc, Some, ◌+◌, ◌<◌, ◌≤◌, Bool, true, false, cond, List, [], ◌∷◌, set, refl, sym, ap, ◌∙◌, subst, arith, ◌-◌, ◌++◌, length, get_or, take, drop}
 use Rattle.lil_base.specs.declared.fault.TrapKind.{TrapKind}
 use Rattle.lil_base.specs.declared.fault.TrapKind.TheVariants as trap
 use Rattle.lil_resolved.specs.Kinds.{Kind, is_base, takes_value, compared_as, covers, shared, Scalar, within, scalar_word, ordinal_of, Word, OfCharacter, Shape, Row, words, part_at, offset, is_there}
 use Rattle.lil_meaning.specs.{Items.{Place, stored, alone, Item, Going, Source, part_of}, Steps.{next, current, trapped}}
 use Rattle.lil_mcode.specs.{declared.machine.Event.{Event, TheVariants.{Went, Trap}}, Table.{State, mstep, going, act, on_one, on_two, double_row, frame_out, load_row, address_row, push_row, fetch_row, put_row, store_row, further_row}}
 use Rattle.lil_table.specs.Rows.{IsAt, InstrsAt, range_code, test_code, Access, readied, store_code, InData, InFrame, OnTop, Behind, framed, further, address_code, load_code, ready_code, held, again_code, held_twice, under_code}
-use Rattle.lil_match.specs.{Goes.{Shared, Goes, Lands}, Running.{Run, running, react}, Parts.yes, Parts.part_fits, Climbs.{first_own, shown_out}, Homes.{word_for, Refers, address, Mem, mem_stored, shape_there, place_inside, part_there}, Waits.{Setting, frame_of, Quiet, Around, Rows, HasPlace, doubled}, Ranges.{has, fits_has, taken_where, takes_base}, Tests.{covered, test_act}}
+use Rattle.lil_match.specs.{Goes.{Shared, Goes, Lands}, Running.{Run, running, react}, Parts.yes, Parts.part_fits, Climbs.{first_own, shown_out}, Homes.{Own, word_for, Refers, address, Mem, mem_stored, shape_there, place_inside, part_there}, Waits.{Setting, frame_of, Quiet, Around, Rows, HasPlace, doubled}, Ranges.{has, fits_has, taken_where, takes_base}, Tests.{covered, test_act}}
 use Rattle.lil_match.specs.{Steps.{both_trap, advances, at_step, rows_ahead, shared_with, goes_one_within, goes_after, goes_more, pushes}, Splices.block_alone}
 use Rattle.std.specs.Prelude.{slice_get}
 use Rattle.std.proofs.lemmas.Bool.{lt-ltb, le-leb, and_from}
@@ -39,6 +39,17 @@ module _ (ctx : Setting) where
   pub frame_load : (n o q : ℕ) (m : State) → act (load_code (InFrame n o)) q own m ≡ load_row (frame_out m.store m.frame n + o) q m
   frame_load zero o q m = refl
   frame_load (suc n) o q m = refl
+
+  -- one of the machine's own words in that frame is loaded
+  pub frame_word : (s : Source) (m : State) → Shared ctx s m → (n o first w : ℕ) → slice_get ctx.stack.frame.display n ≡ Some first → h.owner (first + o) ≡ Own → h.shadow (first + o) ≡ w → first + o ≤ 65535 → (p q : ℕ) (stack : List ℕ) → length stack < 16
+      → act (load_code (InFrame n (framed o))) q own (going m p stack) ≡ (Went, going m q (w ∷ stack))
+  frame_word s m shared n o first w shown its word low p q stack room =
+      let exact : framed o ≡ o = omega (arith, low) in
+      frame_load n (framed o) q (going m p stack)
+      ∙ ap (λ (b : ℕ). load_row b q (going m p stack)) (let e : frame_out m.store m.frame n + framed o ≡ first + o = omega (arith, frame_at s m shared n first shown, exact) in e)
+      ∙ yes _ _ _ (lt-ltb (first + o) 65536 (omega (arith, low)))
+      ∙ ap (λ (z : ℕ). push_row z q (going m p stack)) (shared.mem.kept (first + o) its ∙ word)
+      ∙ pushes w q (going m p stack) room
 
   frame_store : (n o q : ℕ) (m : State) → act (store_code (InFrame n o)) q own m ≡ on_one m m.stack (store_row (frame_out m.store m.frame n + o) q m)
   frame_store zero o q m = refl

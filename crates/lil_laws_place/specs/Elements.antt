@@ -5,18 +5,19 @@ use Rattle.std.proofs.lemmas.{Bool.{lt-ltb, ne_eqb}, Int.ints}
 use Rattle.lil_base.specs.{Words.{Whole, Cardinal, Integer, in_type, word_of}, Laws.{in_range, bounds}}
 use Rattle.lil_base.specs.declared.fault.TrapKind.TheVariants as trap
 use Rattle.lil_resolved.specs.Kinds.{Objects, Kind, OfPointer, base_of, is_base, takes_value, compared_as, least, greatest, nat_of, numbers, position, Scalar, ToObject, Nil, within, scalar_word, ordinal_of, Shape, Absent, Word, Row, words, is_there, part_at, offset, shape_by, shape_at, element_of, led_to}
-use Rattle.lil_resolved.specs.{Resolved.{Named, OfLevel, variable_at, Designator, Variable, Handed, Held, Field, Element, Follow, Expression, shape_of}, Sizes.place_depth}
+use Rattle.lil_resolved.specs.{Resolved.{Named, OfLevel, variable_at, Designator, Variable, Handed, Along, Held, Field, Element, Follow, Expression, shape_of}, Sizes.place_depth}
 use Rattle.lil_meaning.specs.{Items.{Object, Place, object_place, part_of, got, Scalars, Places, Part, IndexBy, IndexAt, Pointed, Item, Value, PlaceOf, Fill, Going, Source}, Steps.{found_at, pointed, trapped, with_items}}
 use Rattle.lil_asm.specs.declared.instr.Instr.TheVariants.{Llw, Nlt, Ixc}
-use Rattle.lil_mcode.specs.{declared.machine.Event.{Event, TheVariants.Went}, Control.above, Table.{State, going, on_two, frame_out, load_row, push_row, element_row}}
-use Rattle.lil_table.specs.Rows.{cut, OnTop, framed, access_at, offset_at, offset_in, access_of, load_code}
+use Rattle.lil_mcode.specs.{declared.machine.Event.{Event, TheVariants.Went}, Control.above, Table.{State, going, on_two, push_row, element_row}}
+use Rattle.lil_table.specs.Rows.{cut, OnTop, access_at, offset_at, offset_in, access_of, load_code}
 use Rattle.lil_match.specs.{Goes.{Shared, Goes, Lands}, Running.running, Parts.{yes, no}, Homes.{word_for, Refers, plain_word, takes_plain, address, shape_there, part_there}, Waits.{stutter, Setting, frame_of, laid_out, Quiet, ValueOf, AtPlace, Around, Reach, Rows, HasPlace, Designates, Waiting}, Orders.{instr_within, instrs_order, expression_stands}}
 use Rattle.lil_match.specs.{Ranges.{has, fits_has, has_type, has_base, takes_part, least_base}, Arithmetic.{word_is, above_more}, Kept.{own_low, own_read}, Variables.{variable_here, handed_here}, Steps.{closed, held_here, advances, at_step, at_once, pushes, lands_on, goes_none, goes_one, goes_after, operand_exact, located_goes}}
-use Rattle.lil_laws_place.specs.Codes.{inside, frame_at, frame_load, part_has, addressed, loads, trap_goes, tested}
+use Rattle.lil_laws_place.specs.Codes.{inside, frame_word, part_has, addressed, loads, trap_goes, tested}
 
 pub place_some : (d : Designator) → 1 ≤ place_depth d
 place_some (Variable x) = omega arith
 place_some (Handed n x) = omega arith
+place_some (Along n x e) = omega arith
 place_some (Held w) = omega arith
 place_some (Field d i) = place_some d
 place_some (Element d k e) = omega (arith, place_some d)
@@ -111,18 +112,13 @@ module _ (ctx : Setting) where
         let r = row.part.here in
         let now : Source = record s { items = PlaceOf (Handed n x) ∷ k; phase = Going } in
         let y = handed_here ctx now m shared (closed ctx k _ _ _ _ _ row.then) n x r.offset r.shape r.at r.typed r.there in
-        let exact : framed r.offset ≡ r.offset = omega (arith, y.low) in
         let stack : List ℕ = address h y.place ∷ m.stack in
         let machine : State = going m row.part.end stack in
         let shape_is : shape_of l.scope (Handed n x) ≡ r.shape = ap (λ (o : Option Shape). led_to (shape_by o)) r.typed in
         goes_one ctx s (PlaceOf (Handed n x) ∷ k) m 31 c (running machine s.world)
         (advances m s.world _ (
         at_step ctx m shared.program (load_code (access_at (OfLevel n x) r.offset)) row.part.end r.load
-        ∙ frame_load ctx n (framed r.offset) row.part.end m
-        ∙ ap (λ (b : ℕ). load_row b row.part.end m) (let e : frame_out m.store m.frame n + framed r.offset ≡ y.first + r.offset = omega (arith, frame_at ctx s m shared n y.first y.shown, exact) in e)
-        ∙ yes _ _ _ (lt-ltb (y.first + r.offset) 65536 (omega (arith, y.low)))
-        ∙ ap (λ (w : ℕ). push_row w row.part.end m) (shared.mem.kept (y.first + r.offset) y.own ∙ y.word)
-        ∙ pushes (address h y.place) row.part.end m (omega (arith, row.part.shallow))))
+        ∙ frame_word ctx s m shared n r.offset y.first (address h y.place) y.shown y.own y.word y.low m.place row.part.end m.stack (omega (arith, row.part.shallow))))
         (subst (λ (o : Option Place). Lands ctx (found_at o k now).phase (found_at o k now) (running machine s.world) c) (sym y.found)
         (lands_on ctx s m shared (Value (Places y.place) ∷ k) row.part.end stack c a
         (at_once ctx _ Quiet row.part.end stack c a

@@ -3,14 +3,14 @@ use Rattle.std.proofs.Common.{◌≡◌, ℕ, ◌+◌, ◌-◌, ◌<◌, ◌≤�
 use Rattle.std.specs.List.{list_any}
 use Rattle.std.proofs.lemmas.{Bool.{le-ltb, lt-ltb, cases_lt}, Option.slice_get_within}
 use Rattle.lil_base.specs.declared.fault.LimitKind.TheVariants as limit
-use Rattle.lil_resolved.specs.{Kinds.{Address}, Plain.parameter_variable}
-use Rattle.lil_meaning.specs.{Items.{Item, Activation, Going, Source}, Need.{HasCalls, chain}, Steps.{next as turn}}
+use Rattle.lil_resolved.specs.{Kinds.{Address, Opened}, Plain.parameter_variable}
+use Rattle.lil_meaning.specs.{Items.{Item, Activation, Going, Source, loaded_at}, Need.{HasCalls, copies_of, chain}, Steps.{next as turn}}
 use Rattle.lil_asm.specs.declared.instr.Instr.TheVariants.{Ent, Rtn}
 use Rattle.lil_mcode.specs.{declared.machine.Event.TheVariants.Went, Table.{Module, State, stack_of, module_at, mstep, end_row, body_row, begun_body, enter_row}}
 use Rattle.lil_frames.specs.Words.{zeros, cleared}
 use Rattle.lil_table.specs.Rows.{IsAt, framed}
-use Rattle.lil_match.specs.{Goes.{OwnWords, Linked, Comes, Shared, IsShort, Lands, Goes, number_of}, Running.{running, advanced}, Parts.{yes, no}, Homes.{Own, Fixed, Free, Home, extends_self, Mem, Ours, Stays, Turns, mem_turned, fixed_turned}, Splices.{spliced_length, spliced_before, spliced_after, zeros_length}, Costs.{known_costs, items_cost}}
-use Rattle.lil_match.specs.{Waits.{Quiet, own_words, locals_in, is_of, outside, Frame, Setting, at_home, with_frames, RowsOf, NextBody}, Known.{or_later, known_kept, each_comes, each_local}, Kept.{all_above, offset_low, rows_kept}, Steps.{advances, at_step, rows_ahead, goes_one_in, goes_full, goes_after}}
+use Rattle.lil_match.specs.{Goes.{IsFree, OwnWords, Linked, Comes, Shared, IsShort, Lands, Goes, number_of}, Running.{running, advanced}, Parts.{yes, no}, Homes.{Own, Fixed, Free, Home, extends_self, Mem, Ours, Stays, Turns, mem_turned, fixed_turned}, Splices.{spliced_length, spliced_before, spliced_after, zeros_length}, Costs.{known_costs, items_cost}}
+use Rattle.lil_match.specs.{Waits.{Quiet, locals_in, is_of, outside, Frame, Setting, at_home, with_frames, RowsOf, NextBody}, Known.{or_later, known_kept, each_comes, each_local}, Kept.{all_above, offset_low, rows_kept}, Steps.{advances, at_step, rows_ahead, goes_one_in, goes_full, goes_after}}
 use Rattle.lil_laws_stmt.specs.Painting.{own_free, painted, painted_there, painted_beside, Side, Before, Between, Behind', side}
 
 module _ (ctx : Setting) (f b : Frame) (bs : List Frame) where
@@ -125,9 +125,12 @@ module _ (ctx : Setting) (f b : Frame) (bs : List Frame) where
       shadow_beside : (a : ℕ) → (a < ctx.stack.base) ⊎ ((ctx.stack.base ≤ a) × (ctx.stack.base + b.layout.frame ≤ a)) → x.shadow a ≡ ctx.home.shadow a
       shadow_beside a o = painted_beside ctx.home.shadow ctx.stack.base (ctx.stack.base + b.layout.frame) (λ a. get_or entered.store a 0) a o
 
-      -- a body has no variables
-      free : (i : ℕ) → (i < 4) ⊎ (4 + own_words f ≤ i)
-      free i = ⊎_elim (λ (z : i < 4). inl z) (λ (z : 4 ≤ i). inr (omega (arith, z, next.plain))) (cases_lt i 4)
+      -- a body has no variables, and copies nothing
+      uncopied : f.copied ≡ 0
+      uncopied = sym shared.standing.known.copies ∙ ap (λ (p : ℕ). copies_of (loaded_at ctx.library ctx.loaded f.number) p shared.standing.known.its.slots) next.body
+
+      free : (i : ℕ) → IsFree f i
+      free i = ⊎_elim (λ (z : i < 4). inl z) (λ (z : 4 ≤ i). inr (omega (arith, z, next.plain), ⊎_elim (λ (y : i < f.layout.frame). inl y) (λ (y : f.layout.frame ≤ i). inr (omega (arith, y, uncopied))) (cases_lt i f.layout.frame))) (cases_lt i 4)
 
       -- all words of the stack are ours
       was_ours : (a : ℕ) → ctx.stack.base ≤ a → a < ctx.stack.limit → Ours (ctx.home.owner a)
@@ -209,7 +212,11 @@ module _ (ctx : Setting) (f b : Frame) (bs : List Frame) where
                   stands = (record { mark = omega (arith, comes.mark, next.bare); top_is = omega (arith, comes.at, g.base_is, next.idle); own = λ i z l. owner_own (b.at + i) (omega (arith, comes.at)) (omega (arith, l, g.base_is)); mine = λ i l. inl (owner_own (b.at + i) (omega (arith, comes.at)) (omega (arith, l, g.base_is))) }, comes.at);
                   links = subst (λ (es : List ℕ). Linked x.shadow ctx.activations b.activation b.number b.at b.display es []) (sym comes.chain) comes.display;
                   locals = each_local ctx.activations ctx.activations (λ i b e. e) h x (b ∷ bs) (λ r s e. refl) (λ r s e. refl) g.locals.2;
-                  handed = (λ y o t at typed there. absurd (let low = offset_low 4 (locals_in b) y o (Address t) at (parameter_variable b.layout.scope 0 y (Address t) typed) in omega (arith, low.0, low.1, next.bare)), tt);
+                  handed = (
+                    λ y o t at typed there. absurd (let low = offset_low 4 (locals_in b) y o (Address t) at (parameter_variable b.layout.scope 0 y (Address t) typed) in omega (arith, low.0, low.1, next.bare)),
+                    λ y o copied t at typed there. absurd (let low = offset_low 4 (locals_in b) y o (Opened copied t) at (parameter_variable b.layout.scope 0 y (Opened copied t) typed) in omega (arith, low.0, low.1, next.bare)),
+                    tt,
+                  );
                   room = λ a from below. owner_free a (omega (arith, from, g.base_is)) below;
                   based = g.based;
                   low = omega (arith, g.base_is, comes.at, room);

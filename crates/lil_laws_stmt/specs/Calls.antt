@@ -12,23 +12,25 @@ use Rattle.lil_match.specs.Homes.{place_inside}
 use Rattle.lil_laws_stmt.specs.Pushes.{alone_given, block_given}
 use Rattle.lil_meaning.specs.Need.{IsCalling, next_called}
 use Rattle.lil_resolved.specs.Kinds.{MayCall}
-use Rattle.std.proofs.Common.{◌≡◌, ℕ, zero, suc, ◌+◌, ◌<◌, ◌≤◌, inl, inr, Bool, true, cond, Option, None, Some, List, [], ◌∷◌, ◌++◌, length, map, take, reverse, refl, sym, ap, ◌∙◌, subst, ⊎_elim, arith}
+use Rattle.std.proofs.Common.{◌≡◌, ℕ, zero, suc, ◌+◌, ◌-◌, ◌<◌, ◌≤◌, inl, inr, Bool, true, cond, Option, None, Some, List, [], ◌∷◌, ◌++◌, length, map, take, reverse, refl, sym, ap, ◌∙◌, subst, ⊎_elim, arith}
 use Rattle.std.specs.Prelude.{slice_get}
 use Rattle.std.proofs.lemmas.List.{length-append, length-reverse}
 use Rattle.std.proofs.lemmas.{Bool.{lt-ltb, le-ltb, cases_lt}, Option.{none-some, same_Some}}
 use Rattle.lil_base.specs.declared.fault.LimitKind.TheVariants as limit
 use Rattle.lil_base.specs.declared.fault.TrapKind.TheVariants as trap
-use Rattle.lil_resolved.specs.{Kinds.{Declared, Outline, Kind, Scalar, within, stores_value, Shape, Word, Address, all_words, parameters_of, procedure_by}, Resolved.{Procedure, Designator, Argument, Arguments, NoMore, Also, ByValue, OfPlace, OfAll, OfArray, OfText, Invoke, Call, Resolved, kind_of, outline_of, shape_of}, Sizes.{frame_words}, Sound.{parameter_of, parameters_given}}
-use Rattle.lil_meaning.specs.{Items.{Evaluate, loaded_at, Place, Datum, Scalars, Places, Called, Pass, PassPlace, PassAll, Do, Passing, Item, Value, Fill, Perform, Activation, Going, Source, heap_words}, Need.{HasCalls, chain, chain_of, frame_by, frame_of}, Steps.{next, trapped, with_items, current, owner_of, procedures_of}}
-use Rattle.lil_asm.specs.declared.instr.Instr.TheVariants.{Sav, Mrk, Psh, Cll}
-use Rattle.lil_mcode.specs.Table.{State, going, mstep, on_one, frame_out, link_word, mark_row, word_row, save_row}
+use Rattle.lil_resolved.specs.{Kinds.{OfCharacter, Declared, Outline, Kind, Scalar, within, stores_value, Shape, Word, Row, Address, Opened, all_words, element_of, along, shape_at, shape_by, parameters_at, parameters_of, procedure_by}, Resolved.{Procedure, Designator, Argument, Arguments, Also, ByValue, OfPlace, OfAll, OfArray, OfText, OfOpened, Invoke, Call, Resolved, kind_of, outline_of, shape_of}, Sizes.{frame_words}, Sound.{parameter_of, parameters_given}}
+use Rattle.lil_meaning.specs.{Items.{Evaluate, loaded_at, Place, Datum, Scalars, Places, Called, Pass, PassPlace, PassAll, PassArray, Opens, Texts, Do, Passing, Item, Value, Fill, Perform, Activation, Going, Source, heap_words}, Need.{HasCalls, chain, chain_of, frame_by, frame_of}, Steps.{next, trapped, with_items, handed_on, current, owner_of, procedures_of}}
+use Rattle.lil_asm.specs.declared.instr.Instr.{Instr, TheVariants.{Liw, Lag, Sav, Mrk, Psh, Cll}}
+use Rattle.lil_mcode.specs.declared.machine.Event.TheVariants.{Went, Limit}
+use Rattle.lil_mcode.specs.Table.{State, act, going, mstep, on_one, frame_out, link_word, mark_row, word_row, save_row}
 use Rattle.lil_frames.specs.Words.{spliced}
-use Rattle.lil_table.specs.Rows.{Layout, InvokeRow, CallRow, given_words, IsAt, InstrsAt, test_code, address_code, framed, GivenAt, arguments_words, access_of, loop_place}
+use Rattle.lil_table.specs.Rows.{InvokeRow, CallRow, given_words, IsAt, InstrsAt, frame_code, second_code, text_words, copy_code, test_code, address_code, framed, GivenAt, access_of, loop_place}
 use Rattle.lil_match.specs.{Goes.{OwnWords, Shared, IsShort, Lands, Goes}, Running.{running}, Parts.{yes, no}, Homes.{Home, word_for, Refers, within_base, address}, Costs.{cost_of, saved_low, pending_cost, items_cost, shared_costs, shared_cost, top_low}, Climbs.{Climbs, climbs, first_own}}
-use Rattle.lil_match.specs.{Waits.{Resumed, AStatement, AValue, result_in, resumed_mode, resumed_stack, saved_words, AreSaved, RestoresAt, own_words, Quiet, ValueOf, AtPlace, Around, top_of, IsLink, frames_of, Setting, at_home, pushing, Designates, GivenWords, Pending, PendingWaits, ValueWaits, PlaceWaits, AllWaits, RowsOf, Rows, Waiting, frame_of as frame_at, laid_out}, Kept.{saved_kept, keeps_fewer, Keeps, pending_fits, rows_renewed, first_words, stack_above, loops_fit, pending_kept, rows_kept}}
-use Rattle.lil_match.specs.{Steps.{closed, goes_after_pushed, goes_more, pending_closed, advances, at_step, at_once, goes_full, goes_one_in, operand_goes, located_goes}, Orders.instr_within}
-use Rattle.lil_laws_place.specs.Codes.{addressed, stored_tested}
-use Rattle.lil_laws_stmt.specs.{Tasks.value_within, Pushes.{with_pushed, shadow_beside, pending_more, taking, shared_pushed, touches_pushed, keeps_pushed, shadow_pushed}}
+use Rattle.lil_match.specs.{Waits.{Resumed, AStatement, AValue, result_in, resumed_mode, resumed_stack, saved_words, AreSaved, RestoresAt, own_words, Quiet, ValueOf, AtPlace, Around, top_of, IsLink, frames_of, Setting, at_home, pushing, Designates, GivenWords, Pending, PendingWaits, ValueWaits, PlaceWaits, AllWaits, ArrayWaits, RowsOf, Rows, Waiting, frame_of as frame_at, laid_out}, Kept.{saved_kept, keeps_fewer, Keeps, pending_fits, rows_renewed, first_words, stack_above, loops_fit, pending_kept, rows_kept}}
+use Rattle.lil_match.specs.{Steps.{closed, goes_after_pushed, goes_more, pending_closed, advances, pushes, at_step, at_once, goes_after, goes_full, goes_one_in, operand_goes, located_goes}, Orders.instr_within}
+use Rattle.lil_laws_place.specs.Codes.{frame_word, leads, addressed, stored_tested}
+use Rattle.lil_match.specs.{Variables.opened_here, Splices.spliced_twice}
+use Rattle.lil_laws_stmt.specs.{Tasks.value_within, Strings.string_low, Pushes.{copy_once, with_pushed, shadow_beside, pending_more, taking, shared_pushed, touches_pushed, keeps_pushed, shadow_pushed}}
 
 -- ---- procedures
 none_procedure : (q : Procedure) → None ≡ Some q → ⊥
@@ -59,6 +61,9 @@ taken_words (suc n) (t ∷ ts) = omega (arith, taken_words n ts)
 
 same_value : (j k : Kind) → ValueOf j ≡ ValueOf k → j ≡ k
 same_value j k e = cc
+
+same_high : (p q : Place) (m n : ℕ) → ◌≡◌ {A = Option (Place × ℕ)} (Some (p, m)) (Some (q, n)) → n ≡ m
+same_high p q m n e = ap (λ (z : Place × ℕ). z.1) (sym (same_Some {A = Place × ℕ} (p, m) (q, n) e))
 
 same_place : (d e : Designator) → AtPlace d ≡ AtPlace e → d ≡ e
 same_place d e f = cc
@@ -233,6 +238,8 @@ module _ (ctx : Setting) where
                         saved = saved_now;
                         outer = a;
                         around = refl;
+                        later = c;
+                        count = omega arith;
                         may = row.here.may;
                         returns = row.here.returns;
                         takes = row.here.takes;
@@ -268,7 +275,7 @@ module _ (ctx : Setting) where
         (omega arith)
 
     -- ---- the next argument
-    next_argument : (done : List Datum) (y : Argument) (left : Arguments) (w : Pending ctx proc levels done [] (Also y left) (RowsOf k) m.place c a) → Pending ctx proc levels done (parameter_of l.scope y ∷ []) left (RowsOf k) w.arguments.1.middle c a
+    next_argument : (done : List Datum) (y : Argument) (left : Arguments) (w : Pending ctx proc levels done [] (Also y left) (RowsOf k) m.place c a) → Pending ctx proc levels done (parameter_of l.scope y ∷ []) left (RowsOf k) w.arguments.middle c a
     next_argument done y left w = record {
       before = w.before;
       shapes = w.shapes;
@@ -277,6 +284,8 @@ module _ (ctx : Setting) where
       saved = w.saved;
       outer = w.outer;
       around = w.around;
+      later = w.later;
+      count = w.count;
       may = w.may;
       returns = w.returns;
       takes = w.takes;
@@ -284,7 +293,7 @@ module _ (ctx : Setting) where
       link = w.link;
       given = w.given;
       middle = w.middle;
-      arguments = w.arguments.1.then;
+      arguments = w.arguments.then;
       end = w.end;
       call = subst (λ (n : ℕ). IsAt piece w.middle (Cll proc (framed n)) w.end) (let e : all_words w.shapes + (0 + given_words l.scope (Also y left)) ≡ all_words w.shapes + ((words (parameter_of l.scope y) + 0) + given_words l.scope left) = omega arith in e) w.call;
       after = w.after;
@@ -293,80 +302,121 @@ module _ (ctx : Setting) where
       then = w.then;
     }
 
-    pub argument_goes : (done : List Datum) (y : Argument) (left : Arguments) → PendingWaits ctx proc levels done (Also y left) (RowsOf k) Quiet m.place m.stack c a
-        → Goes ctx s (Perform (Passing (Called proc levels) done (Also y left)) ∷ k) m (c + 32)
-    argument_goes done (ByValue kind e) left row =
-        let r = row.pending.arguments.1 in
-        let value = r.here.here in
-        operand_goes ctx s k m c a shared (Perform (Passing (Called proc levels) done (Also (ByValue kind e) left)) ∷ k) e (Pass (Called proc levels) kind done left) refl (omega arith) value.middle value.value.value
-        (omega (arith, ap length row.empty, value.value.shallow))
-        (value_within ctx 0 e kind m.place r.here.middle value (instr_within piece r.here.middle Psh r.middle r.here.push))
-        (record { from = kind_of e; mode = refl; empty = row.empty; stores = value.stores; tested = r.here.middle; test = value.test; start = r.middle; push = r.here.push; pending = next_argument done (ByValue kind e) left row.pending })
-    argument_goes done (OfPlace d) left row =
-        let r = row.pending.arguments.1 in
-        let y = r.here.here in
-        located_goes ctx s k m c a shared (Perform (Passing (Called proc levels) done (Also (OfPlace d) left)) ∷ k) d (PassPlace (Called proc levels) done left) refl (omega arith) y.found y.here
-        (omega (arith, ap length row.empty, y.shallow))
-        (record { of = d; mode = refl; empty = row.empty; tested = r.here.middle; address = y.address; start = r.middle; push = r.here.push; pending = next_argument done (OfPlace d) left row.pending })
-    argument_goes done (OfAll d) left row =
-        let r = row.pending.arguments.1 in
-        let y = r.here.here in
-        located_goes ctx s k m c a shared (Perform (Passing (Called proc levels) done (Also (OfAll d) left)) ∷ k) d (PassAll (Called proc levels) done left) refl (omega arith) y.found y.here
-        (omega (arith, ap length row.empty, y.shallow))
-        (record { of = d; mode = refl; empty = row.empty; tested = r.here.middle; address = y.address; start = r.middle; push = r.here.push; pending = next_argument done (OfAll d) left row.pending })
-    argument_goes done (OfArray d high) left row = absurd row.pending.arguments.0
-    argument_goes done (OfText cs) left row = absurd row.pending.arguments.0
-
     -- its words go to the frame to come
+    module _ (first : List Item) (done : List Datum) (t : Shape) (d : Datum) (left : Arguments) (ws : List ℕ) (start : ℕ) (long : length ws ≡ words t) (pending : Pending ctx proc levels done (t ∷ []) left (RowsOf k) start c a)
+        (becomes : next ctx.library (record s { items = first; phase = Going }) ≡ record s { items = Perform (Passing (Called proc levels) (done ++ d ∷ []) left) ∷ k; phase = Going }) where
+      abbrev after : Source
+      after = record s { items = Perform (Passing (Called proc levels) (done ++ d ∷ []) left) ∷ k; phase = Going }
+
+      cost : cost_of (ctx.stack.frame ∷ ctx.stack.callers) + length ws ≤ frame_of (loaded_at ctx.library s.loaded (owner_of (slice_get s.activations (current k)))) proc + 17 + chain ctx.library s.loaded s.activations k
+      cost =
+          let all = pending_cost ctx k proc levels done (t ∷ []) left start c a pending (shared_costs ctx s m shared) (λ y t p stack c a rows costs. items_cost y k t p stack c a rows costs) in
+          let same : frame_of (loaded_at ctx.library s.loaded (owner_of (slice_get s.activations (current k)))) proc + 17 + chain ctx.library s.loaded s.activations k ≡ frame_of (loaded_at ctx.library ctx.loaded (owner_of (slice_get ctx.activations (current k)))) proc + 17 + chain ctx.library ctx.loaded ctx.activations k =
+          ap (λ (ns : List ℕ). frame_of (loaded_at ctx.library ns (owner_of (slice_get s.activations (current k)))) proc + 17 + chain ctx.library ns s.activations k) shared.loaded_are
+          ∙ ap (λ (acts : List Activation). frame_of (loaded_at ctx.library ctx.loaded (owner_of (slice_get acts (current k)))) proc + 17 + chain ctx.library ctx.loaded acts k) shared.activations_are in
+          omega (arith, all, same, long)
+
+      -- one of them finds no room
+      push_full : (from : State) (more : ℕ) → more ≤ length ws → m.limit < m.top + more → mstep from ≡ (Limit limit.Stack, from) → Goes ctx s first from (c + 2)
+      push_full from more few less steps =
+          goes_full ctx s first from (c + 2) limit.Stack steps
+          (subst (λ (y : Source). IsShort ctx.library ctx.stack.base y × HasCalls ctx.library y) (sym becomes)
+          (short after more _ less (omega (arith, cost, few)) refl refl refl, inr (calling (current k) (pending_closed ctx k proc levels done _ left _ _ _ pending) pending.may after (refl, refl, refl, refl)))) (omega arith)
+
+      -- the last of them is there
+      pushed_it : (from : State) (room : m.top + length ws ≤ ctx.stack.limit) → mstep from ≡ (Went, record m { place = start; stack = []; top = m.top + length ws; store = spliced m.store m.top ws })
+          → GivenWords (at_home ctx (taking ctx s m shared ws room)) t d (top_of ctx.stack.frame) → Goes ctx s first from (c + 2)
+      pushed_it from room steps given =
+          let x : Home = taking ctx s m shared ws room in
+          let machine : State = record m { place = start; stack = []; top = m.top + length ws; store = spliced m.store m.top ws } in
+          let loops = pending_loops ctx k proc levels done (t ∷ []) left start c a words_here.mark pending in
+          let keeps : Keeps ctx.home x (frames_of ctx.stack) (ctx.stack.base + 4) (ctx.stack.frame.at + loop_place a.taken) = keeps_pushed ctx s m shared ws room (loop_place a.taken) loops in
+          let kept : Pending (at_home ctx x) proc levels done (t ∷ []) left (RowsOf k) start c a =
+          pending_kept k ctx.activations (λ y z i low. rows_renewed k y ctx.activations z i low) ctx x ctx.stack.limit (ctx.stack.base + 4) (stack_above ctx _ shared.standing).1 proc levels done (t ∷ []) left start c a keeps pending in
+          goes_one_in ctx s first from x (pushing ctx (length ws)).stack (c + 2) (length (copy_code 4 t) + c) (running machine s.world)
+          (advances from s.world _ steps)
+          (subst (λ (y : Source). Lands (pushing (at_home ctx x) (length ws)) y.phase y (running machine s.world) (length (copy_code 4 t) + c)) (sym becomes)
+          (record {
+            machine = machine;
+            is = refl;
+            met = record {
+              shared = shared_pushed ctx s m shared ws room;
+              around = a;
+              ahead = at_once (pushing (at_home ctx x) (length ws)) _ Quiet start [] (length (copy_code 4 t) + c) a
+                  (record {
+                    quiet = refl;
+                    empty = refl;
+                    pending = subst (λ (n : ℕ). Pending (pushing (at_home ctx x) n) proc levels (done ++ d ∷ []) [] left (RowsOf k) start (length (copy_code 4 t) + c) a) (sym long) (pending_more (at_home ctx x) k proc levels done t d left start c a kept given);
+                  });
+            };
+          }))
+          (touches_pushed ctx s m shared ws room)
+          (record { base = refl; limit = omega arith; frames = λ i seen. inl seen })
+          (omega (arith, copy_once 4 t))
+
+    -- all at once
     push_goes : (first : List Item) (done : List Datum) (t : Shape) (d : Datum) (left : Arguments) (ws : List ℕ) (p start : ℕ) (stack : List ℕ) → mstep (going m p stack) ≡ longer_row (length ws) (spliced m.store m.top ws) start [] (going m p stack) → length ws ≡ words t
         → Pending ctx proc levels done (t ∷ []) left (RowsOf k) start c a → ((room : m.top + length ws ≤ ctx.stack.limit) → GivenWords (at_home ctx (taking ctx s m shared ws room)) t d (top_of ctx.stack.frame))
-        → next ctx.library (record s { items = first; phase = Going }) ≡ record s { items = Perform (Passing (Called proc levels) (done ++ d ∷ []) left) ∷ k; phase = Going } → Goes ctx s first (going m p stack) (c + 1)
+        → next ctx.library (record s { items = first; phase = Going }) ≡ record s { items = Perform (Passing (Called proc levels) (done ++ d ∷ []) left) ∷ k; phase = Going } → Goes ctx s first (going m p stack) (c + 2)
     push_goes first done t d left ws p start stack steps long pending given becomes =
         ⊎_elim (λ (less : m.limit < m.top + length ws).
-        goes_full ctx s first (going m p stack) (c + 1) limit.Stack (steps ∙ yes _ _ _ (lt-ltb m.limit (m.top + length ws) less))
-        (subst (λ (y : Source). IsShort ctx.library ctx.stack.base y × HasCalls ctx.library y) (sym becomes)
-        (short after (length ws) _ less cost refl refl refl, inr (calling (current k) (pending_closed ctx k proc levels done _ left _ _ _ pending) pending.may after (refl, refl, refl, refl)))) (omega arith))
-        (λ (some : m.top + length ws ≤ m.limit). pushed_it (omega (arith, some, shared.standing.limit_is)))
+        push_full first done t d left ws start long pending becomes (going m p stack) (length ws) (omega arith) less (steps ∙ yes _ _ _ (lt-ltb m.limit (m.top + length ws) less)))
+        (λ (some : m.top + length ws ≤ m.limit).
+        let room : m.top + length ws ≤ ctx.stack.limit = omega (arith, some, shared.standing.limit_is) in
+        pushed_it first done t d left ws start long pending becomes (going m p stack) room (steps ∙ no _ _ _ (le-ltb m.limit (m.top + length ws) some)) (given room))
         (cases_lt m.limit (m.top + length ws))
+
+    -- the machine with one word more on the stack of frames
+    abbrev pushed_one : ℕ → ℕ → State
+    pushed_one w q = record m { place = q; stack = []; top = m.top + 1; store = spliced m.store m.top (w ∷ []) }
+
+    -- the words of the frame's top are those that were pushed
+    both_pushed : (u v : ℕ) (room : m.top + length (u ∷ v ∷ []) ≤ ctx.stack.limit) → ((taking ctx s m shared (u ∷ v ∷ []) room).shadow (top_of ctx.stack.frame) ≡ u) × ((taking ctx s m shared (u ∷ v ∷ []) room).shadow (top_of ctx.stack.frame + 1) ≡ v)
+    both_pushed u v room =
+        let x : Home = taking ctx s m shared (u ∷ v ∷ []) room in (
+          ap x.shadow (let e : top_of ctx.stack.frame ≡ m.top + 0 = omega (arith, words_here.top_is) in e) ∙ shadow_pushed ctx s m shared (u ∷ v ∷ []) room 0 (omega arith),
+          ap x.shadow (let e : top_of ctx.stack.frame + 1 ≡ m.top + 1 = omega (arith, words_here.top_is) in e) ∙ shadow_pushed ctx s m shared (u ∷ v ∷ []) room 1 (omega arith),
+        )
+
+    -- the words of an open array, of which the first is on the expression stack, one behind the other
+    two_pushed : (first : List Item) (done : List Datum) (t : Shape) (d : Datum) (left : Arguments) (u high p middle start : ℕ) (stack : List ℕ) → stack ≡ u ∷ [] → (i : Instr) → InstrsAt piece (second_code true i) p middle → IsAt piece middle Psh start
+        → ((room : m.top + length (u ∷ []) ≤ ctx.stack.limit) (q : ℕ) → act i middle own (going (pushed_one u q) q []) ≡ (Went, going (pushed_one u q) middle (high ∷ []))) → 2 ≡ words t
+        → Pending ctx proc levels done (t ∷ []) left (RowsOf k) start c a
+        → ((room : m.top + length (u ∷ high ∷ []) ≤ ctx.stack.limit) → ((taking ctx s m shared (u ∷ high ∷ []) room).shadow (top_of ctx.stack.frame) ≡ u) × ((taking ctx s m shared (u ∷ high ∷ []) room).shadow (top_of ctx.stack.frame + 1) ≡ high) → GivenWords (at_home ctx (taking ctx s m shared (u ∷ high ∷ []) room)) t d (top_of ctx.stack.frame))
+        → next ctx.library (record s { items = first; phase = Going }) ≡ record s { items = Perform (Passing (Called proc levels) (done ++ d ∷ []) left) ∷ k; phase = Going } → Goes ctx s first (going m p stack) (c + 4)
+    two_pushed first done t d left u high p middle start stack is i at push second long pending given becomes =
+        ⊎_elim (λ (less : m.limit < m.top + 1).
+        goes_more ctx s first (going m p stack) (c + 2) (c + 4)
+        (full (going m p stack) 1 (omega arith) less (steps_one ∙ yes _ _ _ (lt-ltb m.limit (m.top + 1) less))) (omega arith))
+        (λ (some : m.top + 1 ≤ m.limit). fits some)
+        (cases_lt m.limit (m.top + 1))
       where
-        after : Source
-        after = record s { items = Perform (Passing (Called proc levels) (done ++ d ∷ []) left) ∷ k; phase = Going }
+        full : (from : State) (more : ℕ) → more ≤ 2 → m.limit < m.top + more → mstep from ≡ (Limit limit.Stack, from) → Goes ctx s first from (c + 2)
+        full = push_full first done t d left (u ∷ high ∷ []) start long pending becomes
 
-        cost : cost_of (ctx.stack.frame ∷ ctx.stack.callers) + length ws ≤ frame_of (loaded_at ctx.library s.loaded (owner_of (slice_get s.activations (current k)))) proc + 17 + chain ctx.library s.loaded s.activations k
-        cost =
-            let all = pending_cost ctx k proc levels done (t ∷ []) left start c a pending (shared_costs ctx s m shared) (λ y t p stack c a rows costs. items_cost y k t p stack c a rows costs) in
-            let same : frame_of (loaded_at ctx.library s.loaded (owner_of (slice_get s.activations (current k)))) proc + 17 + chain ctx.library s.loaded s.activations k ≡ frame_of (loaded_at ctx.library ctx.loaded (owner_of (slice_get ctx.activations (current k)))) proc + 17 + chain ctx.library ctx.loaded ctx.activations k =
-            ap (λ (ns : List ℕ). frame_of (loaded_at ctx.library ns (owner_of (slice_get s.activations (current k)))) proc + 17 + chain ctx.library ns s.activations k) shared.loaded_are
-            ∙ ap (λ (acts : List Activation). frame_of (loaded_at ctx.library ctx.loaded (owner_of (slice_get acts (current k)))) proc + 17 + chain ctx.library ctx.loaded acts k) shared.activations_are in
-            omega (arith, all, same, long)
+        steps_one : mstep (going m p stack) ≡ longer_row 1 (spliced m.store m.top (u ∷ [])) at.0 [] (going m p stack)
+        steps_one = at_step ctx (going m p stack) shared.program Psh at.0 at.1 ∙ ap (λ (z : List ℕ). on_one (going m p stack) z (word_row at.0 (going m p stack))) is
 
-        pushed_it : m.top + length ws ≤ ctx.stack.limit → Goes ctx s first (going m p stack) (c + 1)
-        pushed_it room =
-            let x : Home = taking ctx s m shared ws room in
-            let machine : State = record m { place = start; stack = []; top = m.top + length ws; store = spliced m.store m.top ws } in
-            let loops = pending_loops ctx k proc levels done (t ∷ []) left start c a words_here.mark pending in
-            let keeps : Keeps ctx.home x (frames_of ctx.stack) (ctx.stack.base + 4) (ctx.stack.frame.at + loop_place a.taken) = keeps_pushed ctx s m shared ws room (loop_place a.taken) loops in
-            let kept : Pending (at_home ctx x) proc levels done (t ∷ []) left (RowsOf k) start c a =
-            pending_kept k ctx.activations (λ y z i low. rows_renewed k y ctx.activations z i low) ctx x ctx.stack.limit (ctx.stack.base + 4) (stack_above ctx _ shared.standing).1 proc levels done (t ∷ []) left start c a keeps pending in
-            goes_one_in ctx s first (going m p stack) x (pushing ctx (length ws)).stack (c + 1) c (running machine s.world)
-            (advances (going m p stack) s.world _ (steps ∙ no _ _ _ (le-ltb m.limit (m.top + length ws) (omega (arith, room, shared.standing.limit_is)))))
-            (subst (λ (y : Source). Lands (pushing (at_home ctx x) (length ws)) y.phase y (running machine s.world) c) (sym becomes)
-            (record {
-              machine = machine;
-              is = refl;
-              met = record {
-                shared = shared_pushed ctx s m shared ws room;
-                around = a;
-                ahead = at_once (pushing (at_home ctx x) (length ws)) _ Quiet start [] c a
-                    (record {
-                      quiet = refl;
-                      empty = refl;
-                      pending = subst (λ (n : ℕ). Pending (pushing (at_home ctx x) n) proc levels (done ++ d ∷ []) [] left (RowsOf k) start c a) (sym long) (pending_more (at_home ctx x) k proc levels done t d left start c a kept (given room));
-                    });
-              };
-            }))
-            (touches_pushed ctx s m shared ws room)
-            (record { base = refl; limit = omega arith; frames = λ i seen. inl seen })
+        fits : m.top + 1 ≤ m.limit → Goes ctx s first (going m p stack) (c + 4)
+        fits some =
+            let room : m.top + length (u ∷ []) ≤ ctx.stack.limit = omega (arith, some, shared.standing.limit_is) in
+            let one : State = pushed_one u at.0 in
+            let two : State = going (pushed_one u at.0) middle (high ∷ []) in
+            let push_two : mstep two ≡ longer_row 1 (spliced (spliced m.store m.top (u ∷ [])) (m.top + 1) (high ∷ [])) start [] two = at_step ctx two shared.program Psh start push in
+            goes_after ctx s first (going m p stack) one (c + 4) (c + 3) (advances (going m p stack) s.world _ (steps_one ∙ no _ _ _ (le-ltb m.limit (m.top + 1) some)))
+            (goes_after ctx s first one two (c + 3) (c + 2) (advances one s.world _ (at_step ctx one shared.program i at.2.0 at.2.1 ∙ ap (λ (q : ℕ). act i q own one) at.2.2 ∙ second room at.0))
+            (⊎_elim (λ (less : m.limit < m.top + 1 + 1).
+            full two 2 (omega arith) (omega (arith, less)) (push_two ∙ yes _ _ _ (lt-ltb m.limit (m.top + 1 + 1) less)))
+            (λ (enough : m.top + 1 + 1 ≤ m.limit).
+            let all : m.top + 2 ≤ ctx.stack.limit = omega (arith, enough, shared.standing.limit_is) in
+            pushed_it first done t d left (u ∷ high ∷ []) start long pending becomes two all
+            (push_two ∙ no _ _ _ (le-ltb m.limit (m.top + 1 + 1) enough)
+            ∙ ap (λ (z : ℕ × List ℕ). (Went, record m { place = start; stack = []; top = z.0; store = z.1 }))
+            (ap (λ (n : ℕ). (n, spliced (spliced m.store m.top (u ∷ [])) (m.top + 1) (high ∷ []))) (let e : m.top + 1 + 1 ≡ m.top + 2 = omega arith in e)
+            ∙ ap (λ (z : List ℕ). (m.top + 2, z)) (spliced_twice m.store m.top u high (omega (arith, all, shared.standing.high, shared.mem.long)))))
+            (given all (both_pushed u high all)))
+            (cases_lt m.limit (m.top + 1 + 1)))
+            (omega arith))
             (omega arith)
 
     -- the word of the frame's top is the one that was pushed
@@ -376,6 +426,88 @@ module _ (ctx : Setting) where
 
     one_push : (w p start : ℕ) (stack : List ℕ) → stack ≡ w ∷ [] → IsAt piece p Psh start → mstep (going m p stack) ≡ longer_row 1 (spliced m.store m.top (w ∷ [])) start [] (going m p stack)
     one_push w p start stack is push = at_step ctx (going m p stack) shared.program Psh start push ∙ ap (λ (z : List ℕ). on_one (going m p stack) z (word_row start (going m p stack))) is
+
+    pub argument_goes : (done : List Datum) (y : Argument) (left : Arguments) → PendingWaits ctx proc levels done (Also y left) (RowsOf k) Quiet m.place m.stack c a
+        → Goes ctx s (Perform (Passing (Called proc levels) done (Also y left)) ∷ k) m (c + 32)
+    argument_goes done (ByValue kind e) left row =
+        let r = row.pending.arguments in
+        let value = r.here.here in
+        operand_goes ctx s k m c a shared (Perform (Passing (Called proc levels) done (Also (ByValue kind e) left)) ∷ k) e (Pass (Called proc levels) kind done left) refl (omega arith) value.middle value.value.value
+        (omega (arith, ap length row.empty, value.value.shallow))
+        (value_within ctx 0 e kind m.place r.here.middle value (instr_within piece r.here.middle Psh r.middle r.here.push))
+        (record { from = kind_of e; mode = refl; empty = row.empty; stores = value.stores; tested = r.here.middle; test = value.test; start = r.middle; push = r.here.push; pending = next_argument done (ByValue kind e) left row.pending })
+    argument_goes done (OfPlace d) left row =
+        let r = row.pending.arguments in
+        let y = r.here.here in
+        located_goes ctx s k m c a shared (Perform (Passing (Called proc levels) done (Also (OfPlace d) left)) ∷ k) d (PassPlace (Called proc levels) done left) refl (omega arith) y.found y.here
+        (omega (arith, ap length row.empty, y.shallow))
+        (record { of = d; mode = refl; empty = row.empty; tested = r.here.middle; address = y.address; start = r.middle; push = r.here.push; pending = next_argument done (OfPlace d) left row.pending })
+    argument_goes done (OfAll d) left row =
+        let r = row.pending.arguments in
+        let y = r.here.here in
+        located_goes ctx s k m c a shared (Perform (Passing (Called proc levels) done (Also (OfAll d) left)) ∷ k) d (PassAll (Called proc levels) done left) refl (omega arith) y.found y.here
+        (omega (arith, ap length row.empty, y.shallow))
+        (record { of = d; mode = refl; empty = row.empty; tested = r.here.middle; address = y.address; start = r.middle; push = r.here.push; pending = next_argument done (OfAll d) left row.pending })
+    argument_goes done (OfArray copied d high) left row =
+        let r = row.pending.arguments in
+        let y = r.here.here in
+        located_goes ctx s k m c a shared (Perform (Passing (Called proc levels) done (Also (OfArray copied d high) left)) ∷ k) d (PassArray (Called proc levels) high done left) refl (omega arith) y.found y.here
+        (omega (arith, ap length row.empty, y.shallow))
+        (record {
+          of = d;
+          mode = refl;
+          empty = row.empty;
+          rows = y.rows;
+          there = y.there;
+          low = y.low;
+          tested = y.start;
+          address = y.address;
+          first = r.here.middle;
+          by = y.by;
+          start = r.middle;
+          push = r.here.push;
+          copied = copied;
+          pending = next_argument done (OfArray copied d high) left row.pending;
+        })
+    argument_goes done (OfText cs) left row =
+        let r = row.pending.arguments in
+        let y = r.here.here in
+        let items : List Item = Perform (Passing (Called proc levels) done (Also (OfText cs) left)) ∷ k in
+        let from : ℕ = own.base + y.offset in
+        let low = string_low ctx s m shared cs y.offset y.text in
+        leads ctx s items m shared (Lag y.offset) m.place y.start m.stack (from ∷ m.stack) (c + 32) (c + 31) y.address
+        (yes _ _ _ (lt-ltb (own.base + y.offset) 65536 (omega (arith, low))) ∙ pushes from y.start m (omega (arith, ap length row.empty)))
+        (goes_more ctx s items (going m y.start (from ∷ m.stack)) (c + 4) (c + 31)
+        (two_pushed items done (Opened true (Word OfCharacter)) (Texts cs) left from (text_words cs - 1) y.start r.here.middle r.middle (from ∷ m.stack) (ap (λ (z : List ℕ). from ∷ z) row.empty) (Liw (text_words cs - 1)) y.by r.here.push
+        (λ room q. pushes (text_words cs - 1) r.here.middle (going (pushed_one from q) q []) (omega arith)) refl
+        (next_argument done (OfText cs) left row.pending)
+        (λ room top. record { is = refl; offset = y.offset; text = y.text; word = top.0; word_high = top.1 }) refl)
+        (omega arith))
+        (omega arith)
+    argument_goes done (OfOpened copied n x) left row =
+        let r = row.pending.arguments in
+        let o = r.here.here.opened in
+        let element : Shape = along (shape_at (parameters_at l.scope n) x) in
+        let same : element ≡ o.element = ap (λ (z : Option Shape). along (shape_by z)) o.typed in
+        let items : List Item = Perform (Passing (Called proc levels) done (Also (OfOpened copied n x) left)) ∷ k in
+        let now : Source = record s { items = items; phase = Going } in
+        let close = pending_closed ctx k proc levels done [] (Also (OfOpened copied n x) left) _ _ _ row.pending in
+        let y = opened_here ctx now m shared close n x o.offset o.copied o.element o.at o.typed o.there in
+        let stack : List ℕ = address h y.place ∷ m.stack in
+        leads ctx s items m shared (frame_code n o.offset) m.place r.here.here.start m.stack stack (c + 32) (c + 31) r.here.here.first
+        (frame_word ctx s m shared n o.offset y.first (address h y.place) y.shown y.own y.word (omega (arith, y.low)) m.place r.here.here.start m.stack (omega (arith, ap length row.empty)))
+        (goes_more ctx s items (going m r.here.here.start stack) (c + 4) (c + 31)
+        (two_pushed items done (Opened copied element) (Opens y.place y.high) left (address h y.place) y.high r.here.here.start r.here.middle r.middle stack (ap (λ (z : List ℕ). address h y.place ∷ z) row.empty) (frame_code n (o.offset + 1)) r.here.here.by r.here.push
+        (λ room q.
+        let x1 : Home = taking ctx s m shared (address h y.place ∷ []) room in
+        let mid : Setting = pushing (at_home ctx x1) 1 in
+        let z = opened_here mid now (pushed_one (address h y.place) q) (shared_pushed ctx s m shared (address h y.place ∷ []) room) close n x o.offset o.copied o.element o.at o.typed o.there in
+        frame_word mid s (pushed_one (address h y.place) q) (shared_pushed ctx s m shared (address h y.place ∷ []) room) n (o.offset + 1) z.first y.high z.shown z.own_high (z.word_high ∙ same_high y.place z.place y.high z.high (sym y.found ∙ z.found)) z.low q r.here.middle [] (omega arith)) refl
+        (next_argument done (OfOpened copied n x) left row.pending)
+        (λ room top. record { copied = copied; to = element; is = refl; seen = y.seen; living = y.living ∙ ap (Row (suc y.high)) (sym same); there = ap is_there same ∙ o.there; low = y.last; word = top.0; word_high = top.1 })
+        (ap (λ (z : Option (Place × ℕ)). handed_on z (Called proc levels) done left k now) y.found))
+        (omega arith))
+        (omega arith)
 
     pub given_goes : (to : Kind) (done : List Datum) (left : Arguments) (v : Scalar) (kind : Kind) → within kind v ≡ true → Refers h kind v → (below : List ℕ) → m.stack ≡ word_for h v ∷ below → ValueWaits ctx proc levels to done left (RowsOf k) (ValueOf kind) m.place below c a
         → Goes ctx s (Value (Scalars v) ∷ Fill (Pass (Called proc levels) to done left) ∷ k) m (c + 32)
@@ -387,7 +519,7 @@ module _ (ctx : Setting) where
         let same : kind ≡ row.from = same_value kind row.from row.mode in
         let stack_is : m.stack ≡ word_for h v ∷ [] = is ∙ ap (λ (z : List ℕ). word_for h v ∷ z) row.empty in
         stored_tested ctx s items m shared m.place m.stack to kind v (ap (stores_value to) same ∙ row.stores) fit refers below is
-        row.tested (c + 32) (c + 1) (subst (λ (j : Kind). InstrsAt piece (test_code to j) m.place row.tested) (sym same) row.test) (pending_closed ctx k proc levels done _ left _ _ _ row.pending)
+        row.tested (c + 32) (c + 2) (subst (λ (j : Kind). InstrsAt piece (test_code to j) m.place row.tested) (sym same) row.test) (pending_closed ctx k proc levels done _ left _ _ _ row.pending)
         (λ out. ap becomes out)
         (λ one led.
         push_goes items done (Word to) (Scalars v) left (word_for h v ∷ []) row.tested row.start m.stack (one_push (word_for h v) row.tested row.start m.stack stack_is row.push) refl row.pending
@@ -399,12 +531,29 @@ module _ (ctx : Setting) where
     given_place_goes done left place d below has row =
         let items : List Item = Value (Places place) ∷ Fill (PassPlace (Called proc levels) done left) ∷ k in
         let same : d ≡ row.of = same_place d row.of row.mode in
-        addressed ctx s items m shared (access_of l d) place (shape_of l.scope d) m.stack below has (omega (arith, ap length row.empty)) m.place row.tested (c + 32) (c + 1)
+        addressed ctx s items m shared (access_of l d) place (shape_of l.scope d) m.stack below has (omega (arith, ap length row.empty)) m.place row.tested (c + 32) (c + 2)
         (subst (λ (e : Designator). InstrsAt piece (address_code (access_of l e)) m.place row.tested) (sym same) row.address)
         (push_goes items done (Address (shape_of l.scope d)) (Places place) left (address h place ∷ []) row.tested row.start (address h place ∷ below)
         (one_push (address h place) row.tested row.start (address h place ∷ below) (ap (λ (z : List ℕ). address h place ∷ z) row.empty) row.push) refl
         (subst (λ (e : Designator). Pending ctx proc levels done (Address (shape_of l.scope e) ∷ []) left (RowsOf k) row.start c a) (sym same) row.pending)
         (λ room. record { to = shape_of l.scope d; is = refl; seen = has.seen; living = has.living; there = has.there; word = top_pushed (address h place) room }) refl)
+        (omega arith)
+
+    -- an array
+    pub given_array_goes : (high : ℕ) (done : List Datum) (left : Arguments) (place : Place) (d : Designator) (below : List ℕ) → Designates ctx d place m.stack below → ArrayWaits ctx proc levels high done left (RowsOf k) (AtPlace d) m.place below c a
+        → Goes ctx s (Value (Places place) ∷ Fill (PassArray (Called proc levels) high done left) ∷ k) m (c + 32)
+    given_array_goes high done left place d below has row =
+        let items : List Item = Value (Places place) ∷ Fill (PassArray (Called proc levels) high done left) ∷ k in
+        let same : d ≡ row.of = same_place d row.of row.mode in
+        let element : Shape = element_of (shape_of l.scope row.of) in
+        addressed ctx s items m shared (access_of l d) place (shape_of l.scope d) m.stack below has (omega (arith, ap length row.empty)) m.place row.tested (c + 32) (c + 31)
+        (subst (λ (e : Designator). InstrsAt piece (address_code (access_of l e)) m.place row.tested) (sym same) row.address)
+        (goes_more ctx s items (going m row.tested (address h place ∷ below)) (c + 4) (c + 31)
+        (two_pushed items done (Opened row.copied element) (Opens place high) left (address h place) high row.tested row.first row.start (address h place ∷ below) (ap (λ (z : List ℕ). address h place ∷ z) row.empty) (Liw high) row.by row.push
+        (λ room q. pushes high row.first (going (pushed_one (address h place) q) q []) (omega arith)) refl
+        row.pending
+        (λ room top. record { copied = row.copied; to = element; is = refl; seen = has.seen; living = has.living ∙ ap (shape_of l.scope) same ∙ row.rows; there = row.there; low = row.low; word = top.0; word_high = top.1 }) refl)
+        (omega arith))
         (omega arith)
 
     -- all that lies at a place
@@ -426,7 +575,7 @@ module _ (ctx : Setting) where
         ∙ yes _ _ _ (le-leb (from + words t) 65536 (omega (arith, low)))
         ∙ ap (λ (xs : List ℕ). longer_row (words t) (spliced m.store m.top xs) row.start [] at) (block_alone m.store from (words t))
         ∙ ap (λ (n : ℕ). longer_row n (spliced m.store m.top ws) row.start [] at) (sym long) in
-        addressed ctx s items m shared (access_of l d) place t m.stack below has (omega (arith, ap length row.empty)) m.place row.tested (c + 32) (c + 1)
+        addressed ctx s items m shared (access_of l d) place t m.stack below has (omega (arith, ap length row.empty)) m.place row.tested (c + 32) (c + 2)
         (subst (λ (e : Designator). InstrsAt piece (address_code (access_of l e)) m.place row.tested) (sym same) row.address)
         (push_goes items done t (Wholes (under s.cells place)) left ws row.tested row.start (from ∷ below) steps long
         (subst (λ (e : Designator). Pending ctx proc levels done (shape_of l.scope e ∷ []) left (RowsOf k) row.start c a) (sym same) row.pending)

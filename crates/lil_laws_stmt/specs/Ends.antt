@@ -4,12 +4,12 @@ use Rattle.std.proofs.Common.{◌≡◌, ℕ, suc, ◌+◌, ◌<◌, ◌≤◌, 
 use Rattle.std.proofs.lemmas.{Bool.{cases_lt}, Option.{none-some, same_Some}}
 use Rattle.std.specs.Prelude.{slice_get}
 use Rattle.lil_base.specs.declared.fault.TrapKind.TheVariants as trap
-use Rattle.lil_resolved.specs.{Kinds.Shape, Resolved.{Argument, Arguments, NoMore, Also, Expression, Answer, Halt, Return}}
-use Rattle.lil_meaning.specs.{World.{World, closing, all_closed}, Closings.{all_none, all_some}, Items.{Scalars, Value, Returning, loaded_at, Activation, Datum, Called, Pass, PassPlace, PassAll, Do, Turns, Holding, End, Item, Fill, Perform, Level, Going, Closing, Ended, Source}, Steps.{trapped, with_items, end_reached, activation_result, result_by, owner_of, procedure_of, next, returned, left_by, over}}
+use Rattle.lil_resolved.specs.{Kinds.Shape, Resolved.{Arguments, Expression, Answer, Halt, Return}}
+use Rattle.lil_meaning.specs.{World.{World, closing, all_closed}, Closings.{all_none, all_some}, Items.{Scalars, Value, Returning, loaded_at, Activation, Datum, Called, Pass, PassPlace, PassAll, PassArray, Do, Turns, Holding, End, Item, Fill, Perform, Level, Going, Closing, Ended, Source}, Steps.{trapped, with_items, end_reached, activation_result, result_by, owner_of, procedure_of, next, returned, left_by, over}}
 use Rattle.lil_asm.specs.declared.instr.Instr.TheVariants.{Rtn, Trp}
 use Rattle.lil_mcode.specs.{declared.machine.Event.TheVariants.LevelEnded, Table.{Kept, State, going, end_row}}
 use Rattle.lil_table.specs.Rows.{IsAt, leave_code, loop_place}
-use Rattle.lil_match.specs.{Homes.{Refers, word_for}, Orders.instr_within, Goes.{Stands, number_of, Shared, Lands, Goes}, Running.{Finished, Run, running, advanced}, Parts.yes, Waits.{ValueOf, ItemWaits, Resumed, AStatement, AValue, result_in, stutter, Mode, Quiet, Around, outside, Frame, Setting, inside_with, pushing, Pending, saved_words, with_frames, RowsOf, Rows, Ahead, Behind, EndWaits, EndedWaits, Waiting}, Steps.{operand_goes, closed, advances, at_step, lands_on, goes_more, goes_as, goes_none, goes_one_within}}
+use Rattle.lil_match.specs.{Homes.{Refers, word_for}, Orders.instr_within, Goes.{Stands, number_of, Shared, Lands, Goes}, Running.{Finished, Run, running, advanced}, Parts.yes, Waits.{ValueOf, ItemWaits, Resumed, AStatement, AValue, result_in, stutter, Mode, Quiet, Around, outside, Frame, Setting, inside_with, pushing, Pending, saved_words, with_frames, RowsOf, Rows, Ahead, Behind, EndWaits, EndedWaits, Waiting}, Steps.{operand_goes, closed, advances, at_step, lands_on, goes_more, goes_none, goes_one_within}}
 use Rattle.lil_laws_place.specs.Codes.{trap_goes, stored_tested}
 use Rattle.lil_laws_stmt.specs.{Returns.{goes_back, goes_back_with}, Tasks.value_within, Bodies.{goes_next, goes_short}}
 
@@ -150,9 +150,9 @@ behind_pushed before n k c [] [] last = last
 returns_pending : (ctx : Setting) (q levels : ℕ) (done : List Datum) (next : List Shape) (left : Arguments) (k : List Item) (p c : ℕ) (a : Around) → Pending ctx q levels done next left (RowsOf k) p c a
     → ((y : Setting) (t : Mode) (p : ℕ) (stack : List ℕ) (c : ℕ) (a : Around) → Rows y k t p stack c a → Returns y (returned k) c) → Returns ctx (returned k) c
 returns_pending ctx q levels done next left k p c a w rest =
-    let r = rest w.before _ w.after _ c w.outer w.then in
+    let r = rest w.before _ w.after _ w.later w.outer w.then in
     subst (λ (y : Setting). Returns y (returned k) c) (sym w.is)
-    (record { later = r.later; less = r.less; behind = behind_pushed w.before (saved_words w.resumed + (4 + all_words w.shapes)) (returned k) r.later w.before.stack.callers w.before.stack.bodies r.behind })
+    (record { later = r.later; less = omega (arith, r.less, w.count); behind = behind_pushed w.before (saved_words w.resumed + (4 + all_words w.shapes)) (returned k) r.later w.before.stack.callers w.before.stack.bodies r.behind })
 
 -- from the row of any items
 returns : (ctx : Setting) (k : List Item) (t : Mode) (p : ℕ) (stack : List ℕ) (c : ℕ) (a : Around) → Rows ctx k t p stack c a → Returns ctx (returned k) c
@@ -169,6 +169,8 @@ returns ctx (Fill (Pass (Called q levels) kind done left) ∷ k) t p stack c a r
 returns ctx (Fill (PassPlace (Called q levels) done left) ∷ k) t p stack c a r =
     sooner ctx (returned k) c r.later (omega (arith, r.count)) (returns_pending ctx q levels done _ left k _ r.later a r.there.pending (λ y t p stack c a. returns y k t p stack c a))
 returns ctx (Fill (PassAll (Called q levels) done left) ∷ k) t p stack c a r =
+    sooner ctx (returned k) c r.later (omega (arith, r.count)) (returns_pending ctx q levels done _ left k _ r.later a r.there.pending (λ y t p stack c a. returns y k t p stack c a))
+returns ctx (Fill (PassArray (Called q levels) high done left) ∷ k) t p stack c a r =
     sooner ctx (returned k) c r.later (omega (arith, r.count)) (returns_pending ctx q levels done _ left k _ r.later a r.there.pending (λ y t p stack c a. returns y k t p stack c a))
 returns ctx (i ∷ k) t p stack c a r = sooner ctx (returned k) c r.later (omega (arith, r.count)) (returns ctx k _ _ _ _ _ r.there.then)
 

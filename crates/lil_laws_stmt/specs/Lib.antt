@@ -6,6 +6,7 @@ pub mod Calls
 pub mod Bodies
 pub mod Cases
 pub mod Changes
+pub mod Copies
 pub mod Control
 pub mod Ends
 pub mod Enters

@@ -7,7 +7,7 @@ use Rattle.lil_match.specs.Kept.{offset_low}
 use Rattle.std.proofs.Common.{◌≡◌, ℕ, zero, suc, ◌+◌, ◌<◌, ◌≤◌, ◌⊎◌, inl, inr, Bool, true, false, cond, eqb, List, [], ◌∷◌, Option, Some, get_or, refl, sym, ap, ◌∙◌, subst, arith, eqb-true}
 use Rattle.std.specs.Prelude.{slice_get, ◌==◌}
 use Rattle.std.proofs.lemmas.{Bool.{cases_Bool, and_parts}, Option.{none-some, same_Some}}
-use Rattle.lil_resolved.specs.Kinds.{Kind, Shape, Absent, Word, Address, words, is_there, part_at, offset as part_offset, all_words, offsets_from, shape_at, shape_by}
+use Rattle.lil_resolved.specs.Kinds.{Kind, Shape, Absent, Word, words, is_there, part_at, offset as part_offset, all_words, offsets_from, shape_at, shape_by}
 use Rattle.lil_meaning.specs.Items.{Root, Global, Local, Object, Cells, same_root, stored, with_locals}
 use Rattle.lil_match.specs.{Parts.{yes, no}, Homes.{Owner, Of, Own, Fixed, Free, Home, extends_self, Mem, is_word_kept, zero_is, same_root_eq, same_root_refl, own_fixed}}
 use Rattle.lil_laws_stmt.specs.{Births.{adopted, whole_place, mem_adopted}, Painting.{own_free, free_fixed, of_own, painted, painted_there, painted_beside, Side, Before, Between, Behind', side}}
@@ -26,12 +26,12 @@ mem_seen h cells other store mem same = record {
   long = mem.long;
 }
 
-none_there : (q : List ℕ) (k : Kind) → part_at Absent q ≡ Word k → ⊥
+pub none_there : (q : List ℕ) (k : Kind) → part_at Absent q ≡ Word k → ⊥
 none_there [] k e = cc
 none_there (i ∷ q) k e = cc
 
 -- a root's own cells stored there
-stored_self : (cells : Cells) (r s : Root) (q : List ℕ) → stored cells (whole_place r) (cells r) s q ≡ cells s q
+pub stored_self : (cells : Cells) (r s : Root) (q : List ℕ) → stored cells (whole_place r) (cells r) s q ≡ cells s q
 stored_self cells r s q = by (same_root r s) refl
   where
     by : (b : Bool) → same_root r s ≡ b → cond b (cells r q) (cells s q) ≡ cells s q
@@ -123,6 +123,19 @@ shape_there a x (u ∷ ts) f (suc y) t at there =
     ap (λ (z : ℕ). born_shapes a (suc x) ts (λ s. cond (same_root (Local a x) s) (own_shape u) (f s)) (Local a z)) (let e : x + suc y ≡ suc x + y = omega arith in e)
     ∙ shape_there a (suc x) ts (λ s. cond (same_root (Local a x) s) (own_shape u) (f s)) y t at there
 
+-- what was handed in for one is no root
+pub shape_none : (a x : ℕ) (ts : List Shape) (f : Root → Shape) (y : ℕ) (t : Shape) → slice_get ts y ≡ Some t → is_there t ≡ false → born_shapes a x ts f (Local a (x + y)) ≡ Absent
+shape_none a x [] f y t at none = absurd (none-some t at)
+shape_none a x (u ∷ ts) f zero t at none =
+    ap (λ (z : ℕ). born_shapes a (suc x) ts (λ s. cond (same_root (Local a x) s) (own_shape u) (f s)) (Local a z)) (let e : x + 0 ≡ x = omega arith in e)
+    ∙ shape_other a (suc x) ts (λ s. cond (same_root (Local a x) s) (own_shape u) (f s)) (Local a x) (earlier a x)
+    ∙ yes (same_root (Local a x) (Local a x)) (own_shape u) (f (Local a x)) (same_root_refl (Local a x))
+    ∙ ap own_shape (same_Some u t at)
+    ∙ no (is_there t) t Absent none
+shape_none a x (u ∷ ts) f (suc y) t at none =
+    ap (λ (z : ℕ). born_shapes a (suc x) ts (λ s. cond (same_root (Local a x) s) (own_shape u) (f s)) (Local a z)) (let e : x + suc y ≡ suc x + y = omega arith in e)
+    ∙ shape_none a (suc x) ts (λ s. cond (same_root (Local a x) s) (own_shape u) (f s)) y t at none
+
 -- their words are theirs, and the others stay
 pub owner_other : (a x b : ℕ) (ts : List Shape) (f : ℕ → Owner) (i : ℕ) → (i < b) ⊎ (b + all_words ts ≤ i) → born_owners a x b ts f i ≡ f i
 owner_other a x b [] f i o = refl
@@ -146,16 +159,18 @@ owner_there a x b (t ∷ ts) f i from below = by (side b (b + words (own_shape t
         ⊎_elim (λ same. inl (same ∙ painted_beside f b (b + words (own_shape t)) (λ j. Of (Local a x)) i (inr (z, y)))) (λ one. inr one) (rest more (omega (arith, below)))
 
 -- the words of what was handed in stay what they were
-pub owner_handed : (a x b at k : ℕ) (ts : List Shape) (f : ℕ → Owner) → b ≡ at + k → (y offset : ℕ) (t : Shape) → slice_get (offsets_from k ts) y ≡ Some offset → slice_get ts y ≡ Some (Address t) → born_owners a x b ts f (at + offset) ≡ f (at + offset)
-owner_handed a x b at k [] f is y offset t there typed = absurd (none-some offset there)
-owner_handed a x b at k (u ∷ ts) f is zero offset t there typed =
+pub owner_handed : (a x b at k : ℕ) (ts : List Shape) (f : ℕ → Owner) → b ≡ at + k → (y offset : ℕ) (t : Shape) → slice_get (offsets_from k ts) y ≡ Some offset → slice_get ts y ≡ Some t → is_there t ≡ false → (i : ℕ) → offset ≤ i → i < offset + words t
+    → born_owners a x b ts f (at + i) ≡ f (at + i)
+owner_handed a x b at k [] f is y offset t there typed none i from below = absurd (none-some offset there)
+owner_handed a x b at k (u ∷ ts) f is zero offset t there typed none i from below =
     let here : at + offset ≡ b = omega (arith, is, same_Some k offset there) in
-    let long : (words u ≡ 1) × (words (own_shape u) ≡ 0) = let same = same_Some u (Address t) typed in (ap words same, ap (λ (z : Shape). words (own_shape z)) same) in
-    owner_other a (suc x) (b + words u) ts (painted f b (b + words (own_shape u)) (λ j. Of (Local a x))) (at + offset) (inl (omega (arith, here, long.0)))
-    ∙ painted_beside f b (b + words (own_shape u)) (λ j. Of (Local a x)) (at + offset) (inr (omega (arith, here), omega (arith, here, long.1)))
-owner_handed a x b at k (u ∷ ts) f is (suc y) offset t there typed =
-    owner_handed a (suc x) (b + words u) at (k + words u) ts (painted f b (b + words (own_shape u)) (λ j. Of (Local a x))) (omega (arith, is)) y offset t there typed
-    ∙ painted_beside f b (b + words (own_shape u)) (λ j. Of (Local a x)) (at + offset) (let low = offset_low (k + words u) ts y offset (Address t) there typed in inr (omega (arith, is, low.0), omega (arith, is, low.0, own_shape_short u)))
+    let same = same_Some u t typed in
+    let long : words (own_shape u) ≡ 0 = ap (λ (z : Shape). words (own_shape z)) same ∙ ap words (no (is_there t) t Absent none) in
+    owner_other a (suc x) (b + words u) ts (painted f b (b + words (own_shape u)) (λ j. Of (Local a x))) (at + i) (inl (omega (arith, here, below, ap words same)))
+    ∙ painted_beside f b (b + words (own_shape u)) (λ j. Of (Local a x)) (at + i) (inr (omega (arith, here, from), omega (arith, here, from, long)))
+owner_handed a x b at k (u ∷ ts) f is (suc y) offset t there typed none i from below =
+    owner_handed a (suc x) (b + words u) at (k + words u) ts (painted f b (b + words (own_shape u)) (λ j. Of (Local a x))) (omega (arith, is)) y offset t there typed none i from below
+    ∙ painted_beside f b (b + words (own_shape u)) (λ j. Of (Local a x)) (at + i) (let low = offset_low (k + words u) ts y offset t there typed in inr (omega (arith, is, low.0, from), omega (arith, is, low.0, from, own_shape_short u)))
 
 -- THE law of a call's variables: they come to life over words that are theirs already
 pub mem_born : (a x b at k : ℕ) (ts : List Shape) (h : Home) (cells : Cells) (store : List ℕ) → b ≡ at + k → Mem h cells store → ((y : ℕ) → x ≤ y → h.shape (Local a y) ≡ Absent) → ((i : ℕ) → b ≤ i → i < b + all_words ts → h.owner i ≡ Own)
@@ -199,12 +214,12 @@ mem_entered h cells store a done ts mem unborn = mem_seen h cells (with_locals c
     same (Object o) q k is = refl
     same (Local b x) q k is = by (b == a) refl
       where
-        by : (c : Bool) → (b == a) ≡ c → cond c (begun (slice_get done x) (shape_at ts x) q) (cells (Local b x) q) ≡ cells (Local b x) q
+        by : (c : Bool) → (b == a) ≡ c → cond c (begun cells (slice_get done x) (shape_at ts x) q) (cells (Local b x) q) ≡ cells (Local b x) q
         by true e = absurd (none_there q k (ap (λ (t : Shape). part_at t q) (sym (unborn x) ∙ ap (λ (c : ℕ). h.shape (Local c x)) (sym (eqb-true b a e))) ∙ is))
         by false e = refl
 
-pub fresh_local : (cells : Cells) (a : ℕ) (done : List Datum) (ts : List Shape) (y : ℕ) (t : Shape) (q : List ℕ) → slice_get ts y ≡ Some t → with_locals cells a done ts (Local a y) q ≡ begun (slice_get done y) t q
-fresh_local cells a done ts y t q there = yes (eqb a a) (begun (slice_get done y) (shape_at ts y) q) (cells (Local a y) q) (refl_eq a) ∙ ap (λ (o : Option Shape). begun (slice_get done y) (shape_by o) q) there
+pub fresh_local : (cells : Cells) (a : ℕ) (done : List Datum) (ts : List Shape) (y : ℕ) (t : Shape) (q : List ℕ) → slice_get ts y ≡ Some t → with_locals cells a done ts (Local a y) q ≡ begun cells (slice_get done y) t q
+fresh_local cells a done ts y t q there = yes (eqb a a) (begun cells (slice_get done y) (shape_at ts y) q) (cells (Local a y) q) (refl_eq a) ∙ ap (λ (o : Option Shape). begun cells (slice_get done y) (shape_by o) q) there
   where
     refl_eq : (a : ℕ) → eqb a a ≡ true
     refl_eq a = (and_parts (eqb a a) (eqb y y) (same_root_refl (Local a y))).0

@@ -1,25 +1,25 @@
 -- Words of a call that go above the running frame: its mark, and its arguments.
-use Rattle.lil_resolved.specs.Kinds.{Kind, Scalar, Absent, words, is_there, part_at, offset as part_offset, all_words}
+use Rattle.lil_resolved.specs.Kinds.{Kind, Scalar, Absent, Blank, Join, Row, Opened, words, is_there, part_at, offset as part_offset, all_words}
 use Rattle.lil_meaning.specs.Items.{Place, Wholes, Opens, Texts, under}
 use Rattle.lil_match.specs.Homes.{IsWord, is_word_kept, address, shape_there}
 use Rattle.lil_match.specs.Parts.{part_append, offset_append as part_offset_append, part_fits, word_long}
-use Rattle.lil_table.specs.Rows.{given_words}
-use Rattle.lil_resolved.specs.Resolved.{Resolved, Argument, Arguments, NoMore, Also}
+use Rattle.lil_table.specs.Rows.{given_words, copy_code, copies_code}
+use Rattle.lil_resolved.specs.Resolved.{Resolved, Arguments}
 use Rattle.lil_meaning.specs.Items.{Activation, Item}
 use Rattle.lil_mcode.specs.Table.{Module}
-use Rattle.std.proofs.Common.{append_assoc, map, true}
-use Rattle.std.proofs.lemmas.List.{length_push}
+use Rattle.std.proofs.Common.{append_assoc, true, false}
+use Rattle.std.proofs.lemmas.List.{length-append}
 use Rattle.lil_match.specs.Waits.{Around, RowsOf, Pending, saved_words, top_of}
 use Rattle.lil_asm.specs.declared.instr.Instr.TheVariants.{Cll}
 use Rattle.lil_table.specs.Rows.{IsAt, framed}
-use Rattle.lil_resolved.specs.Sound.{parameter_of, parameters_given}
-use Rattle.std.proofs.Common.{◌≡◌, ℕ, suc, ◌+◌, ◌<◌, ◌≤◌, ◌⊎◌, inl, inr, List, [], ◌∷◌, ◌++◌, length, get_or, refl, sym, ap, ◌∙◌, subst, ⊎_elim, arith}
+use Rattle.lil_resolved.specs.Sound.{parameters_given}
+use Rattle.std.proofs.Common.{◌≡◌, ℕ, ◌+◌, ◌<◌, ◌≤◌, ◌⊎◌, inl, inr, List, [], ◌∷◌, ◌++◌, length, get_or, refl, sym, ap, ◌∙◌, subst, ⊎_elim, arith}
 use Rattle.lil_resolved.specs.Kinds.{Shape, Word, Address}
 use Rattle.lil_meaning.specs.Items.{Local, Datum, Scalars, Places, Source}
 use Rattle.lil_mcode.specs.Table.{State, stack_of}
 use Rattle.lil_frames.specs.Words.{spliced}
-use Rattle.lil_match.specs.{Homes.{Own, Of, Fixed, Free, Home, Mem, Stays, Turns, mem_turned, extends_self}, Splices.{spliced_length, spliced_before, spliced_there, spliced_after}, Goes.{OwnWords, Stands, Chained, EachHanded, EachLocal, IsKnown, Shared, Touches}, Laid.known_part}
-use Rattle.lil_match.specs.{Waits.{Frame, own_words, frames_of, Setting, at_home, pushing, GivenWords, AllGiven}, Known.{known_kept, each_known, each_comes, each_local}, Kept.{Keeps, EachAbove, sees_pushed, each_handed, first_words, stack_above, stands_kept, chained_kept}}
+use Rattle.lil_match.specs.{Homes.{Own, Of, Fixed, Free, Home, Mem, Stays, Turns, mem_turned, extends_self}, Splices.{spliced_length, spliced_before, spliced_there, spliced_after}, Goes.{IsFree, OwnWords, Stands, Chained, EachHanded, EachLocal, IsKnown, Shared, Touches}, Laid.known_part}
+use Rattle.lil_match.specs.{Waits.{Frame, frames_of, Setting, at_home, pushing, GivenWords, AllGiven}, Known.{known_kept, each_known, each_comes, each_local}, Kept.{Keeps, EachAbove, sees_pushed, each_handed, first_words, stack_above, stands_kept, chained_kept}}
 use Rattle.lil_laws_stmt.specs.Painting.{free_fixed, painted, painted_there, painted_beside, Side, Before, Between, Behind', side}
 
 none_under : (x : ℕ) (q : List ℕ) (k j : Kind) → part_at (Word k) (x ∷ q) ≡ Word j → ⊥
@@ -38,8 +38,9 @@ words_pushed ctx n t (Scalars v) at r = record { there = r.there; cells = r.cell
 words_pushed ctx n t (Wholes u) at r = record { there = r.there; cells = r.cells }
 words_pushed ctx n t (Places place) at r =
     record { to = r.to; is = r.is; seen = sees_pushed ctx.stack.frame (n + ctx.stack.frame.pushed) (ctx.stack.callers ++ ctx.stack.bodies) place.root ∙ r.seen; living = r.living; there = r.there; word = r.word }
-words_pushed ctx n t (Opens place high) at r = absurd r
-words_pushed ctx n t (Texts cs) at r = absurd r
+words_pushed ctx n t (Opens place high) at r =
+    record { copied = r.copied; to = r.to; is = r.is; seen = sees_pushed ctx.stack.frame (n + ctx.stack.frame.pushed) (ctx.stack.callers ++ ctx.stack.bodies) place.root ∙ r.seen; living = r.living; there = r.there; low = r.low; word = r.word; word_high = r.word_high }
+words_pushed ctx n t (Texts cs) at r = record { is = r.is; offset = r.offset; text = r.text; word = r.word; word_high = r.word_high }
 
 given_pushed : (ctx : Setting) (n : ℕ) (ts : List Shape) (ds : List Datum) (at : ℕ) → AllGiven ctx ts ds at → AllGiven (pushing ctx n) ts ds at
 given_pushed ctx n [] [] at r = r
@@ -67,7 +68,7 @@ module _ (f : Frame) (n more : ℕ) where
 
   pub known_repushed : (library : List Resolved) (loaded : List ℕ) (table : List Module) (acts : List Activation) (h : Home) → IsKnown library loaded table acts h (record f { pushed = n }) → IsKnown library loaded table acts h (record f { pushed = more })
   known_repushed library loaded table acts h k =
-      known_part library loaded table acts acts h before f.layout f.activation f.procedure f.entry f.after f.piece f.at more f.display f.back refl k.its k.runs k.owner k.called (record { there = k.entered.there; apart = k.entered.apart }) (record { is = k.piece.is; within = k.piece.within }) k.size k.returns k
+      known_part library loaded table acts acts h before f.layout f.activation f.procedure f.entry f.after f.piece f.at more f.copied f.display f.back refl k.its k.runs k.owner k.called (record { there = k.entered.there; apart = k.entered.apart }) (record { is = k.piece.is; within = k.piece.within }) k.size k.copies k.returns k
 
   pub links_repushed : (shadow : ℕ → ℕ) (acts : List Activation) (gs : List Frame) → Chained shadow acts (record f { pushed = n }) gs → Chained shadow acts (record f { pushed = more }) gs
   links_repushed shadow acts [] c = c
@@ -79,7 +80,8 @@ module _ (f : Frame) (n more : ℕ) where
   pub handed_repushed : (acts : List Activation) (h : Home) (gs bs : List Frame) → EachHanded acts h (record f { pushed = n } ∷ gs) bs → EachHanded acts h (record f { pushed = more } ∷ gs) bs
   handed_repushed acts h gs bs e = (
     λ y o t at typed there. let l = e.0 y o t at typed there in record { its = l.its; runs = l.runs; place = l.place; slot = l.slot; seen = l.seen; living = l.living; own = l.own; word = l.word },
-    e.1,
+    λ y o copied t at typed there. let l = e.1 y o copied t at typed there in record { its = l.its; runs = l.runs; place = l.place; high = l.high; slot = l.slot; seen = sees_pushed f more (gs ++ bs) l.place.root ∙ sym (sees_pushed f n (gs ++ bs) l.place.root) ∙ l.seen; living = l.living; low = l.low; own = l.own; own_high = l.own_high; word = l.word; word_high = l.word_high },
+    e.2,
   )
 
 module _ (ctx : Setting) (s : Source) (m : State) (shared : Shared ctx s m) (ws : List ℕ) (room : m.top + length ws ≤ ctx.stack.limit) where
@@ -166,7 +168,7 @@ module _ (ctx : Setting) (s : Source) (m : State) (shared : Shared ctx s m) (ws 
     mine = λ i less. mine i (side m.top (m.top + length ws) (ctx.stack.frame.at + i)) less;
   }
     where
-      by : (i : ℕ) → Side m.top (m.top + length ws) (ctx.stack.frame.at + i) → (i < 4) ⊎ (4 + own_words ctx.stack.frame ≤ i) → ctx.stack.frame.at + i < m.top + length ws → taking.owner (ctx.stack.frame.at + i) ≡ Own
+      by : (i : ℕ) → Side m.top (m.top + length ws) (ctx.stack.frame.at + i) → IsFree ctx.stack.frame i → ctx.stack.frame.at + i < m.top + length ws → taking.owner (ctx.stack.frame.at + i) ≡ Own
       by i (Before z) free less = owner_beside (ctx.stack.frame.at + i) (inl z) ∙ mine_first.own i free z
       by i (Between z y) free less = owner_there (ctx.stack.frame.at + i) z y
       by i (Behind' z y) free less = absurd (omega (arith, y, less))
@@ -239,9 +241,34 @@ module _ (ctx : Setting) (s : Source) (m : State) (shared : Shared ctx s m) (ws 
     workspaces = extends_self h.workspaces;
   }
 
+-- how many instructions copy what a parameter is given
+copy_long : (o n : ℕ) (t : Shape) → length (copy_code o t) ≡ length (copy_code n t)
+copy_long o n Absent = refl
+copy_long o n (Word k) = refl
+copy_long o n Blank = refl
+copy_long o n (Join t u) = refl
+copy_long o n (Row i t) = refl
+copy_long o n (Address t) = refl
+copy_long o n (Opened false t) = refl
+copy_long o n (Opened true t) = refl
+
+pub copy_once : (o : ℕ) (t : Shape) → length (copy_code o t) ≤ 1
+copy_once o Absent = omega arith
+copy_once o (Word k) = omega arith
+copy_once o Blank = omega arith
+copy_once o (Join t u) = omega arith
+copy_once o (Row i t) = omega arith
+copy_once o (Address t) = omega arith
+copy_once o (Opened false t) = omega arith
+copy_once o (Opened true t) = omega arith
+
+codes_more : (o : ℕ) (ts : List Shape) (t : Shape) → length (copies_code o (ts ++ t ∷ [])) ≡ length (copies_code o ts) + length (copy_code 4 t)
+codes_more o [] t = omega (arith, length-append (copy_code o t) [], copy_long o 4 t)
+codes_more o (u ∷ ts) t = omega (arith, length-append (copy_code o u) (copies_code (o + words u) (ts ++ t ∷ [])), length-append (copy_code o u) (copies_code (o + words u) ts), codes_more (o + words u) ts t)
+
 -- the next argument was pushed
 pub pending_more : (ctx : Setting) (k : List Item) (q levels : ℕ) (done : List Datum) (t : Shape) (d : Datum) (left : Arguments) (p c : ℕ) (a : Around) → Pending ctx q levels done (t ∷ []) left (RowsOf k) p c a → GivenWords ctx t d (top_of ctx.stack.frame)
-    → Pending (pushing ctx (words t)) q levels (done ++ d ∷ []) [] left (RowsOf k) p c a
+    → Pending (pushing ctx (words t)) q levels (done ++ d ∷ []) [] left (RowsOf k) p (length (copy_code 4 t) + c) a
 pending_more ctx k q levels done t d left p c a w word =
     let long : all_words (w.shapes ++ t ∷ []) ≡ all_words w.shapes + words t = more_words w.shapes t in
     let top : top_of ctx.stack.frame ≡ top_of w.before.stack.frame + saved_words w.resumed + 4 + all_words w.shapes =
@@ -258,6 +285,8 @@ pending_more ctx k q levels done t d left p c a w word =
       restore = w.restore;
       outer = w.outer;
       around = w.around;
+      later = w.later;
+      count = omega (arith, w.count, codes_more 4 w.shapes t);
       may = w.may;
       takes = w.takes ∙ sym (append_assoc w.shapes (t ∷ []) (parameters_given ctx.stack.frame.layout.scope left));
       room = omega (arith, w.room, long);

@@ -1,18 +1,19 @@
 -- The rows of requests and of their arguments.
 use Rattle.std.proofs.Common.{◌≡◌, ℕ, zero, suc, ◌+◌, ◌-◌, ◌%◌, ◌<◌, ◌≤◌, Bool, true, false, cond, List, [], ◌∷◌, ◌++◌, length, map, reverse, get_or, take, drop, inl, inr, ◌⊎◌, refl, sym, ap, ◌∙◌, subst, arith, append_assoc}
-use Rattle.std.specs.Prelude.{nat_le, nat_lt, ◌||◌}
+use Rattle.std.specs.Prelude.{Option, nat_le, nat_lt, ◌||◌}
 use Rattle.std.proofs.lemmas.{Bool.{le-leb, leb-true, lt-ltb, cases_lt, and_from}, List.{map-append, append-nil, reverse-append, take_all, drop_all, drop_more}}
 use Rattle.lil_base.specs.declared.fault.TrapKind.TheVariants as trap
 use Rattle.lil_base.specs.{Requests.{request_number, request_found, takes_array}, declared.request.Request.{Request, TheVariants.{Write, WriteString, WriteLn, WriteCard, WriteInt, WriteOct, WriteHex}}}
 use Rattle.lil_asm.specs.{Requests.request_words, declared.instr.Instr.TheVariants.{Liw, Lag, Svc}}
-use Rattle.lil_resolved.specs.{Kinds.{Kind, OfWhole, OfTruth, OfCharacter, OfEnumeration, OfSet, OfPointer, OfRange, is_plain, takes_value, stores_value, Scope, Scalar, Character, within, scalar_word, Shape, Absent, Word, Row, words, is_there, part_at, offset}, Resolved.{Designator, Argument, Arguments, NoMore, Also, ByValue, OfPlace, OfAll, OfArray, OfText, kind_of, shape_of}, Sizes.argument_words, Sound.{request_parameters, parameter_of, parameters_given, is_text}}
+use Rattle.lil_resolved.specs.{Kinds.{Kind, OfWhole, OfTruth, OfCharacter, OfEnumeration, OfSet, OfPointer, OfRange, is_plain, takes_value, stores_value, Scope, Scalar, Character, within, scalar_word, Shape, Absent, Word, Row, words, is_there, part_at, offset, along, shape_by}, Resolved.{Designator, Argument, Arguments, NoMore, Also, ByValue, OfPlace, OfAll, OfArray, OfText, OfOpened, kind_of, shape_of}, Sizes.argument_words, Sound.{request_parameters, parameter_of, parameters_given, is_text}}
 use Rattle.lil_resolved.specs.Resolved as resolved
-use Rattle.lil_meaning.specs.{Items.{Place, part_of, got, Datum, Scalars, Places, Wholes, Opens, Texts, Requested, Pass, PassArray, Do, Passing, Item, Value, PlaceOf, Fill, Perform, Going, Source}, World.{World, Given, Single, Characters, characters_at, array_at, given_by, serve}, Steps.{trapped, with_items, character_of, characters_from, as_array, given_of, level_of}}
+use Rattle.lil_meaning.specs.{Items.{Place, part_of, got, Datum, Scalars, Places, Wholes, Opens, Texts, Requested, Pass, PassArray, Do, Passing, Item, Value, PlaceOf, Fill, Perform, Going, Source}, World.{World, Given, Single, Characters, characters_at, array_at, given_by, serve}, Steps.{trapped, with_items, handed_on, character_of, characters_from, as_array, given_of, level_of}}
 use Rattle.lil_mcode.specs.Table.{State, going, array_lies, request_row}
 use Rattle.lil_table.specs.Rows.{IsAt, ArgumentsAt, HasText, text_words, arguments_words, access_of}
 use Rattle.lil_match.specs.{Goes.{Shared, Goes, Lands}, Running.{Running, Run, running}, Parts.{yes, no}, Homes.{Home, text_character, word_for, plain_word, takes_plain, address, shape_there, place_inside, part_there}, Waits.stutter}
 use Rattle.lil_match.specs.{Waits.{Setting, frame_of, laid_out, Quiet, ValueOf, AtPlace, Around, Reach, Rows, Designates, is_open, is_array, AreTaken, TakesAll, DatumOn, DataOn, LeftPart, Waiting}, Orders.{instr_within, arguments_within}, Steps.{closed, advances, at_step, at_once, pushes, rows_ahead, lands_on, goes_none, goes_none_within, goes_one, operand_goes}}
-use Rattle.lil_laws_place.specs.Codes.{leads, addressed, tested}
+use Rattle.lil_laws_place.specs.{Codes.{leads, addressed, tested}, Opens.words_loaded}
+use Rattle.lil_match.specs.Variables.{opened_here}
 use Rattle.lil_laws_stmt.specs.{Strings.{string_low, string_word}, Tasks.value_within}
 
 -- ---- which arguments are arrays
@@ -45,7 +46,7 @@ only false e = e
 -- each takes values that are no references, and open arrays
 all_taken : (r : Request) → AreTaken (request_parameters r)
 all_taken Write = (refl, tt)
-all_taken WriteString = (tt, tt)
+all_taken WriteString = (refl, tt)
 all_taken WriteLn = tt
 all_taken WriteCard = (refl, (refl, tt))
 all_taken WriteInt = (refl, (refl, tt))
@@ -257,10 +258,10 @@ module _ (ctx : Setting) where
         })
     passing_goes r done (OfPlace d) left row = absurd row.part.rest.forms.served.0
     passing_goes r done (OfAll d) left row = absurd row.part.rest.forms.served.0
-    passing_goes r done (OfArray d high) left row =
+    passing_goes r done (OfArray copied d high) left row =
         let rest = row.part.rest in
         let y = rest.given.here in
-        goes_none ctx s (Perform (Passing (Requested r) done (Also (OfArray d high) left)) ∷ k) m 32 c
+        goes_none ctx s (Perform (Passing (Requested r) done (Also (OfArray copied d high) left)) ∷ k) m 32 c
         (lands_on ctx s m shared (PlaceOf d ∷ Fill (PassArray (Requested r) high done left) ∷ k) m.place m.stack c a
         (at_once ctx _ Quiet m.place m.stack c a
         (record {
@@ -268,14 +269,15 @@ module _ (ctx : Setting) where
           then = at_once ctx _ (AtPlace d) y.found m.stack c a
               (record {
                 part = record {
-                  rows = y.rows;
+                  rows = y.rows ∙ ap (Row (suc high)) rest.forms.taken.0;
+                  low = y.low;
                   room = y.room;
                   on = row.part.on;
                   start = y.start;
                   last = rest.given.middle;
                   address = y.address;
-                  by = y.by;
-                  rest = left_more r (map is_array done) (OfArray d high) left (length m.stack) m.place rest;
+                  by = subst (λ (q : ℕ). IsAt piece y.start (Liw high) q) y.by.2 y.by.1;
+                  rest = left_more r (map is_array done) (OfArray copied d high) left (length m.stack) m.place rest;
                 };
                 then = row.then;
               });
@@ -293,7 +295,7 @@ module _ (ctx : Setting) where
         let count : 2 + length m.stack ≡ length stack = omega arith in
         leads ctx s items m shared (Lag y.offset) m.place y.start m.stack (from ∷ m.stack) (c + 32) (c + 1) y.address
         (yes _ _ _ (lt-ltb (own.base + y.offset) 65536 (omega (arith, low))) ∙ pushes from y.start m (omega (arith, y.room)))
-        (leads ctx s items m shared (Liw (text_words cs - 1)) y.start rest.given.middle (from ∷ m.stack) stack (c + 1) c y.by
+        (leads ctx s items m shared (Liw (text_words cs - 1)) y.start rest.given.middle (from ∷ m.stack) stack (c + 1) c (subst (λ (q : ℕ). IsAt piece y.start (Liw (text_words cs - 1)) q) y.by.2 y.by.1)
         (pushes (text_words cs - 1) rest.given.middle (going m y.start (from ∷ m.stack)) (omega (arith, y.room)))
         (goes_none_within ctx s items here c c
         (lands_on ctx s m shared after rest.given.middle stack c a
@@ -308,6 +310,36 @@ module _ (ctx : Setting) where
         (omega arith)
         (omega arith))
         (omega arith))
+        (omega arith)
+    passing_goes r done (OfOpened copied n x) left row =
+        let rest = row.part.rest in
+        let y = rest.given.here in
+        let o = y.opened in
+        let items : List Item = Perform (Passing (Requested r) done (Also (OfOpened copied n x) left)) ∷ k in
+        let now : Source = record s { items = items; phase = Going } in
+        let z = opened_here ctx now m shared (closed ctx k _ _ _ _ _ row.then) n x o.offset o.copied o.element o.at o.typed o.there in
+        let stack : List ℕ = z.high ∷ address h z.place ∷ m.stack in
+        let after : List Item = Perform (Passing (Requested r) (done ++ Opens z.place z.high ∷ []) left) ∷ k in
+        let here : State = going m rest.given.middle stack in
+        let count : 2 + length m.stack ≡ length stack = omega arith in
+        let element : o.element ≡ Word OfCharacter = sym (ap (λ (t : Option Shape). along (shape_by t)) o.typed) ∙ rest.forms.taken.0 in
+        let becomes : Option (Place × ℕ) → Source = λ t. handed_on t (Requested r) done left k now in
+        let falls : stutter after < stutter items = omega arith in
+        words_loaded ctx s k m c a shared items n x o.offset o.element z m.place rest.given.middle m.stack (c + 32) c (omega (arith, y.room)) (y.start, y.first, y.by)
+        (goes_none_within ctx s items here c c
+        (subst (λ (t : Source). Lands ctx t.phase t (running here s.world) c) (sym (ap becomes z.found))
+        (lands_on ctx s m shared after rest.given.middle stack c a
+        (at_once ctx _ Quiet rest.given.middle stack c a
+        (record {
+          part = record {
+            on = data_more done (Opens z.place z.high) [] m.stack stack row.part.on
+                (record { has = record { seen = z.seen; living = z.living ∙ ap (Row (suc z.high)) element; there = refl; at = refl }; low = z.last; is = refl });
+            rest = left_done r done (Opens z.place z.high) left (2 + length m.stack) (length stack) rest.given.middle count (left_more r (map is_array done) (OfOpened copied n x) left (length m.stack) m.place rest);
+          };
+          then = row.then;
+        }))))
+        (omega arith)
+        (subst (λ (t : Source). stutter t.items < stutter items) (sym (ap becomes z.found)) falls))
         (omega arith)
 
     -- an array is there: its address, and the number of its last element
@@ -328,7 +360,7 @@ module _ (ctx : Setting) where
         (record {
           part = record {
             on = data_more done (Opens place high) [] below stack y.on
-                (record { has = record { seen = has.seen; living = has.living ∙ y.rows; there = refl; at = refl }; is = refl });
+                (record { has = record { seen = has.seen; living = has.living ∙ y.rows; there = refl; at = refl }; low = y.low; is = refl });
             rest = left_done r done (Opens place high) left (2 + length below) (length stack) y.last count y.rest;
           };
           then = row.then;

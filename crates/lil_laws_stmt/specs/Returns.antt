@@ -10,7 +10,7 @@ use Rattle.lil_asm.specs.declared.instr.Instr.TheVariants.{Rtn, Rst}
 use Rattle.lil_mcode.specs.Table.{Module, State, mstep, restored_row, stack_of, module_at, return_row}
 use Rattle.lil_table.specs.Rows.{IsAt}
 use Rattle.lil_match.specs.{Goes.{OwnWords, Stands, IsUnborn, beyond, Shared, Lands, Touches, Goes}, Running.{running, advanced}, Parts.{yes, no}, Homes.{Refers, refers_base, word_for, within_base, Of, Own, Fixed, Free, Home, extends_self, Mem}, Waits.{Quiet, Resumed, AStatement, AValue, AreSaved, saved_words, resumed_mode, resumed_stack, RestoresAt, frames_of, Frame, is_of, sees, Setting, at_home, with_frames, Rows, RowsOf, Back}, Known.{or_later, known_kept, each_known, each_comes, each_local}}
-use Rattle.lil_match.specs.{Kept.{sees_pushed, EachAbove, each_handed, first_words, stands_above, all_above, stands_kept, rows_kept}, Steps.{at_once, goes_after, advances, at_step, rows_ahead, goes_one_in}}
+use Rattle.lil_match.specs.{Kept.{sees_pushed, EachAbove, each_handed, first_words, stands_above, all_above, stands_kept, copies_below, rows_kept}, Steps.{at_once, goes_after, advances, at_step, rows_ahead, goes_one_in}}
 use Rattle.lil_laws_stmt.specs.Pushes.{known_repushed, links_repushed, locals_repushed, handed_repushed}
 use Rattle.lil_laws_stmt.specs.Locals.{of_activation, released, mem_released, fixed_released}
 use Rattle.lil_laws_stmt.specs.Painting.{painted_there, painted_beside, Side, Before, Between, Behind', side}
@@ -82,12 +82,16 @@ module _ (ctx : Setting) (f g : Frame) (gs bs : List Frame) where
     begins : f.at ≡ from + saved_words back.resumed
     begins = omega (arith, under.top_is, back.pushed_is)
 
+    -- and those behind the copies
+    copies_low : g.copied ≤ back.under_saved
+    copies_low = copies_below k (with_frames called g2 gs bs) _ _ _ _ _ back.then
+
     -- those words and its own are the machine's, or its variables'
     mine : (i : ℕ) → from ≤ i → i < m.top → (ctx.home.owner i ≡ Own) ⊎ ((y : ℕ) × (ctx.home.owner i ≡ Of (Local f.activation y)))
     mine i is below =
         ⊎_elim
         (λ (less : i < f.at).
-        inl (subst (λ (a : ℕ). ctx.home.owner a ≡ Own) (let e : g.at + (i - g.at) ≡ i = omega (arith, is) in e) (under.own (i - g.at) (inr (omega (arith, is, under.mark))) (omega (arith, is, less)))))
+        inl (subst (λ (a : ℕ). ctx.home.owner a ≡ Own) (let e : g.at + (i - g.at) ≡ i = omega (arith, is) in e) (under.own (i - g.at) (inr (omega (arith, is, under.mark), inr (omega (arith, is, copies_low)))) (omega (arith, is, less)))))
         (λ (more : f.at ≤ i).
         subst (λ (a : ℕ). (ctx.home.owner a ≡ Own) ⊎ ((y : ℕ) × (ctx.home.owner a ≡ Of (Local f.activation y)))) (let e : f.at + (i - f.at) ≡ i = omega (arith, more) in e) (words.mine (i - f.at) (omega (arith, more, below))))
         (cases_lt i f.at)
@@ -174,7 +178,7 @@ module _ (ctx : Setting) (f g : Frame) (gs bs : List Frame) where
             links = links_repushed g g.pushed back.under_saved h.shadow ctx.activations gs g'.links.1;
             locals = locals_repushed g g.pushed back.under_saved ctx.activations x (gs ++ bs) (each_local ctx.activations ctx.activations (λ i b e. e) h x (g ∷ (gs ++ bs)) (λ r seen e. refl) (λ r seen e. shape_kept r seen) g'.locals.2);
             handed = handed_repushed g g.pushed back.under_saved ctx.activations x gs bs
-                (each_handed ctx.activations ctx.activations (λ i b e. e) h x bs base f.at g gs g'.stands.1 (λ a is below. (beside_is a (inl (omega (arith, below, under.mark))), refl)) (λ r seen e. refl) (λ r seen e. shape_kept r seen) g'.handed.1);
+                (each_handed ctx.activations ctx.activations (λ i b e. e) h x bs base f.at g gs g'.stands.1 (λ a is below. (beside_is a (inl (omega (arith, below, under.mark))), refl)) (λ r seen e. refl) (λ r seen e. shape_kept r seen) g'.handed.2);
             room = λ a is below. room a is below (side from m.top a);
             based = g'.based;
             low = omega (arith, begins, g'.frame_is, words.top_is, g'.low);
@@ -242,7 +246,7 @@ module _ (ctx : Setting) (f g : Frame) (gs bs : List Frame) where
     was_own : (i : ℕ) → i < saved_words back.resumed → get_or m.store (from + i) 0 ≡ h.shadow (from + i)
     was_own i less =
         shared.mem.kept (from + i)
-        (subst (λ (a : ℕ). h.owner a ≡ Own) (let e : g.at + (g.layout.frame + back.under_saved + i) ≡ from + i = omega arith in e) (under.own (g.layout.frame + back.under_saved + i) (inr (omega (arith, under.mark))) (omega (arith, less, begins))))
+        (subst (λ (a : ℕ). h.owner a ≡ Own) (let e : g.at + (g.layout.frame + back.under_saved + i) ≡ from + i = omega arith in e) (under.own (g.layout.frame + back.under_saved + i) (inr (omega (arith, under.mark), inr (omega (arith, copies_low)))) (omega (arith, less, begins))))
 
     module _ (w : ℕ) (kind : Kind) (saved : List ℕ) (resumed : back.resumed ≡ AValue kind saved) (alone : m.stack ≡ w ∷ []) where
       kept : AreSaved h.shadow (AValue kind saved) from

@@ -3,6 +3,7 @@
 
 mod data;
 mod strings;
+mod values;
 
 pub use data::data_words;
 pub use strings::body_words;

@@ -1,12 +1,12 @@
 -- What the calls at hand need is at least what their frames take.
 use Rattle.lil_resolved.specs.Kinds.{all_words}
 use Rattle.lil_table.specs.Rows.{given_words}
-use Rattle.std.proofs.Common.{◌≡◌, ℕ, ◌+◌, ◌≤◌, ⊎_elim, List, [], ◌∷◌, length, Option, sym, ap, ◌∙◌, subst, arith}
+use Rattle.std.proofs.Common.{◌≡◌, ℕ, ◌+◌, ◌≤◌, ⊎_elim, List, [], ◌∷◌, Option, sym, ap, ◌∙◌, subst, arith}
 use Rattle.std.specs.Prelude.{slice_get}
-use Rattle.lil_resolved.specs.{Kinds.Shape, Resolved.{Argument, Arguments, NoMore, Also, Resolved}}
-use Rattle.lil_meaning.specs.{Items.{loaded_at, Datum, Called, Pass, PassPlace, PassAll, Turns, Holding, End, Item, Fill, Perform, Activation, Source}, Need.{frame_of, cost, unless_body, with_callers, chain}, Steps.{current, owner_of, procedure_of}}
+use Rattle.lil_resolved.specs.{Kinds.Shape, Resolved.{Arguments, Resolved}}
+use Rattle.lil_meaning.specs.{Items.{loaded_at, Datum, Called, Pass, PassPlace, PassAll, PassArray, Turns, Holding, End, Item, Fill, Perform, Activation, Source}, Need.{frame_of, copies_of, cost, unless_body, with_callers, chain}, Steps.{current, owner_of, procedure_of}}
 use Rattle.lil_mcode.specs.Table.{Module, State}
-use Rattle.lil_match.specs.{Homes.{Owner, Home}, Waits.{Mode, Quiet, Around, Frame, Setting, with_frames, Pending, Resumed, AStatement, AValue, AreSaved, saved_words, Behind, RowsOf, Rows}, Goes.{Stands, IsKnown, EachKnown, Shared}, Steps.closed}
+use Rattle.lil_match.specs.{Homes.{Owner, Home}, Waits.{Mode, Around, Frame, Setting, with_frames, Pending, Resumed, AStatement, AValue, AreSaved, saved_words, Behind, RowsOf, Rows}, Goes.{Stands, IsKnown, EachKnown, Shared}, Steps.closed}
 
 abbrev pub cost_of : List Frame → ℕ
 cost_of [] = 0
@@ -14,7 +14,7 @@ cost_of (f ∷ fs) = (f.layout.frame + f.pushed) + cost_of fs
 
 -- the activation of a frame takes what the frame does
 pub record Costs (library : List Resolved) (loaded : List ℕ) (acts : List Activation) (f : Frame) : Type 0 where
-  pub takes : cost library loaded (slice_get acts f.activation) ≡ f.layout.frame + 17
+  pub takes : cost library loaded (slice_get acts f.activation) ≡ f.layout.frame + f.copied + 17
   pub rest : (n : ℕ) → with_callers (slice_get acts f.activation) n ≡ unless_body f.procedure n
   pub owner : owner_of (slice_get acts f.activation) ≡ f.number
 
@@ -28,9 +28,9 @@ known_costs library loaded table acts h f g =
     let called : g.its.procedure ≡ f.procedure = sym (ap procedure_of g.runs) ∙ g.called in
     record {
       takes = ap (cost library loaded) g.runs
-          ∙ ap (λ (n : ℕ). frame_of (loaded_at library loaded n) g.its.procedure + 17) owner
-          ∙ ap (λ (p : ℕ). frame_of (loaded_at library loaded f.number) p + 17) called
-          ∙ ap (λ (w : ℕ). w + 17) (sym g.size);
+          ∙ ap (λ (n : ℕ). frame_of (loaded_at library loaded n) g.its.procedure + copies_of (loaded_at library loaded n) g.its.procedure g.its.slots + 17) owner
+          ∙ ap (λ (p : ℕ). frame_of (loaded_at library loaded f.number) p + copies_of (loaded_at library loaded f.number) p g.its.slots + 17) called
+          ∙ (let e : frame_of (loaded_at library loaded f.number) f.procedure + copies_of (loaded_at library loaded f.number) f.procedure g.its.slots + 17 ≡ f.layout.frame + f.copied + 17 = omega (arith, g.size, g.copies) in e);
       rest = λ n. ap (λ (o : Option Activation). with_callers o n) g.runs ∙ ap (λ (p : ℕ). unless_body p n) called;
       owner = g.owner;
     }
@@ -46,12 +46,12 @@ pub pending_cost : (ctx : Setting) (k : List Item) (q levels : ℕ) (done : List
     → cost_of (ctx.stack.frame ∷ ctx.stack.callers) + (all_words next + given_words ctx.stack.frame.layout.scope left) ≤ (frame_of (loaded_at ctx.library ctx.loaded (owner_of (slice_get ctx.activations (current k)))) q + 17) + chain ctx.library ctx.loaded ctx.activations k
 pending_cost ctx k q levels done next left p c a w e rest =
     let inner = subst (λ (y : Setting). EachCosts y.library y.loaded y.activations (y.stack.frame ∷ y.stack.callers)) w.is e in
-    let below = rest w.before _ w.after _ c w.outer w.then (record { takes = inner.0.takes; rest = inner.0.rest; owner = inner.0.owner }, inner.1) in
+    let below = rest w.before _ w.after _ w.later w.outer w.then (record { takes = inner.0.takes; rest = inner.0.rest; owner = inner.0.owner }, inner.1) in
     let chain_is : chain ctx.library ctx.loaded ctx.activations k ≡ chain w.before.library w.before.loaded w.before.activations k = ap (λ (y : Setting). chain y.library y.loaded y.activations k) w.is in
     let cost_is : cost_of (ctx.stack.frame ∷ ctx.stack.callers) ≡ (saved_words w.resumed + (4 + all_words w.shapes)) + cost_of (w.before.stack.frame ∷ w.before.stack.callers) =
     ap (λ (y : Setting). cost_of (y.stack.frame ∷ y.stack.callers)) w.is
     ∙ (let e : (w.before.stack.frame.layout.frame + ((saved_words w.resumed + (4 + all_words w.shapes)) + w.before.stack.frame.pushed)) + cost_of w.before.stack.callers ≡ (saved_words w.resumed + (4 + all_words w.shapes)) + ((w.before.stack.frame.layout.frame + w.before.stack.frame.pushed) + cost_of w.before.stack.callers) = omega arith in e) in
-    let same : current k ≡ ctx.stack.frame.activation = closed w.before k _ w.after _ c w.outer w.then ∙ sym (ap (λ (y : Setting). y.stack.frame.activation) w.is) in
+    let same : current k ≡ ctx.stack.frame.activation = closed w.before k _ w.after _ w.later w.outer w.then ∙ sym (ap (λ (y : Setting). y.stack.frame.activation) w.is) in
     let number : owner_of (slice_get ctx.activations (current k)) ≡ ctx.stack.frame.number = ap (λ (i : ℕ). owner_of (slice_get ctx.activations i)) same ∙ e.0.owner in
     let frame : frame_of (loaded_at ctx.library ctx.loaded (owner_of (slice_get ctx.activations (current k)))) q ≡ frame_of (loaded_at ctx.library ctx.loaded ctx.stack.frame.number) q = ap (λ (i : ℕ). frame_of (loaded_at ctx.library ctx.loaded i) q) number in
     omega (arith, below, chain_is, cost_is, frame, w.room)
@@ -76,7 +76,7 @@ items_cost ctx (Perform (Holding place) ∷ k) t p stack c a r e =
     (items_cost w.before k _ _ _ _ _ w.then (record { takes = inner.0.takes; rest = inner.0.rest; owner = inner.0.owner }, inner.1)) in
     omega (arith, rest)
 items_cost ctx (Perform (End n) ∷ k) t p stack c a r e =
-    let same : chain ctx.library ctx.loaded ctx.activations (Perform (End n) ∷ k) ≡ (ctx.stack.frame.layout.frame + 17) + with_callers (slice_get ctx.activations ctx.stack.frame.activation) (chain ctx.library ctx.loaded ctx.activations k) =
+    let same : chain ctx.library ctx.loaded ctx.activations (Perform (End n) ∷ k) ≡ (ctx.stack.frame.layout.frame + ctx.stack.frame.copied + 17) + with_callers (slice_get ctx.activations ctx.stack.frame.activation) (chain ctx.library ctx.loaded ctx.activations k) =
     ap (λ (i : ℕ). cost ctx.library ctx.loaded (slice_get ctx.activations i) + with_callers (slice_get ctx.activations i) (chain ctx.library ctx.loaded ctx.activations k)) r.there.activation
     ∙ ap (λ (n : ℕ). n + with_callers (slice_get ctx.activations ctx.stack.frame.activation) (chain ctx.library ctx.loaded ctx.activations k)) e.0.takes in
     omega (arith, same, r.there.idle, by ctx.stack.callers ctx.stack.bodies e.1 r.there.behind (λ g gs bs t p stack a back rest. items_cost (with_frames ctx g gs bs) k t p stack r.later a back rest))
@@ -94,6 +94,9 @@ items_cost ctx (Fill (PassPlace (Called q levels) done left) ∷ k) t p stack c 
     let all = pending_cost ctx k q levels done _ left _ _ a r.there.pending e (λ y t p stack c a. items_cost y k t p stack c a) in
     omega (arith, all)
 items_cost ctx (Fill (PassAll (Called q levels) done left) ∷ k) t p stack c a r e =
+    let all = pending_cost ctx k q levels done _ left _ _ a r.there.pending e (λ y t p stack c a. items_cost y k t p stack c a) in
+    omega (arith, all)
+items_cost ctx (Fill (PassArray (Called q levels) high done left) ∷ k) t p stack c a r e =
     let all = pending_cost ctx k q levels done _ left _ _ a r.there.pending e (λ y t p stack c a. items_cost y k t p stack c a) in
     omega (arith, all)
 items_cost ctx (i ∷ k) t p stack c a r e =

@@ -1,11 +1,11 @@
 -- Matched states: the code at hand does the items that are left, the store has the cells, and frames stand one over another. One step of
 -- the source leads from one to the next.
-use Rattle.std.proofs.Common.{◌≡◌, ℕ, ◌+◌, ◌<◌, ◌≤◌, ◌⊎◌, Bool, true, false, not, Option, Some, None, List, [], ◌∷◌, ◌++◌, length, get_or, map}
+use Rattle.std.proofs.Common.{◌≡◌, ℕ, suc, ◌+◌, ◌<◌, ◌≤◌, ◌⊎◌, Bool, true, false, not, Option, Some, None, List, [], ◌∷◌, ◌++◌, length, get_or, map, take}
 use Rattle.std.specs.{Prelude.slice_get, List.list_any}
 use Rattle.lil_base.specs.declared.fault.{LimitKind.LimitKind, TrapAt.TrapAt}
 use Rattle.lil_base.specs.declared.fault.LimitKind.TheVariants as limit
-use Rattle.lil_resolved.specs.{Resolved.{Procedure, Resolved, procedure_by, outline_of}, Sizes.frame_words, Kinds.{result_here, Shape, Absent, Address, is_there, shape_at, offsets_from}}
-use Rattle.lil_meaning.specs.{Items.{Root, Global, Local, Object, Place, Here, At, Cells, targets_of, loaded_at, Item, Activation, Workspace, Parked, Level, Phase, Going, Closing, Ended, Trapped, Source, heap_words}, World.{World, all_closed}, Need.{frame_of, chain_of, HasCalls}, Steps.{next, owner_of, procedure_of, result_by, procedures_of, surrounding, name_of, procedure_name}}
+use Rattle.lil_resolved.specs.{Resolved.{Procedure, Resolved, procedure_by, outline_of}, Sizes.frame_words, Kinds.{result_here, Shape, Absent, Row, Address, Opened, is_there, shape_at, offsets_from}}
+use Rattle.lil_meaning.specs.{Items.{Root, Global, Local, Object, Place, Here, At, Along, Cells, targets_of, loaded_at, Item, Activation, Workspace, Parked, Level, Phase, Going, Closing, Ended, Trapped, Source, heap_words}, World.{World, all_closed}, Need.{frame_of, copies_of, chain_of, HasCalls}, Steps.{next, owner_of, procedure_of, result_by, procedures_of, surrounding, name_of, procedure_name}}
 use Rattle.lil_mcode.specs.Table.{Module, StackRegisters, Kept, State, stack_of, module_at}
 use Rattle.lil_asm.specs.Stretches.{stretch}
 use Rattle.lil_table.specs.Rows.{Layout, FramedRow, exactly}
@@ -16,11 +16,15 @@ pub record IsStill (w : World) (run : Run) : Type 0 where
   pub world : run.world ≡ w
   pub finish : run.finish ≡ Running
 
--- A frame's words, and those of its pending calls above it, are the machine's own, or those of its variables behind the mark.
+-- a word of a frame or above it that is none of its variables' or copies'
+abbrev pub IsFree : Frame → ℕ → Type 0
+IsFree f i = (i < 4) ⊎ ((4 + own_words f ≤ i) × ((i < f.layout.frame) ⊎ (f.layout.frame + f.copied ≤ i)))
+
+-- A frame's words, and those of its copies and its pending calls above it, are the machine's own, or those of its variables behind the mark.
 pub record OwnWords (owner : ℕ → Owner) (f : Frame) (top : ℕ) : Type 0 where
   pub mark : 4 + own_words f ≤ f.layout.frame
   pub top_is : top ≡ top_of f
-  pub own : (i : ℕ) → (i < 4) ⊎ (4 + own_words f ≤ i) → f.at + i < top → owner (f.at + i) ≡ Own
+  pub own : (i : ℕ) → IsFree f i → f.at + i < top → owner (f.at + i) ≡ Own
   pub mine : (i : ℕ) → f.at + i < top → (owner (f.at + i) ≡ Own) ⊎ ((x : ℕ) × (owner (f.at + i) ≡ Of (Local f.activation x)))
 
 -- frames stand one over another, the lowest at the base
@@ -94,7 +98,7 @@ pub record Entered (own : Module) (l : Layout) (p : ℕ) (its : Procedure) : Typ
   pub after : ℕ
   pub within : after ≤ length own.code
   pub apart : IsApart own.procedures p entry after
-  pub code : FramedRow (record inner { target = exactly }) (stretch entry after own.code) its.result its.locals its.body entry after
+  pub code : FramedRow (record inner { target = exactly }) (stretch entry after own.code) its.result its.locals (take its.parameters its.locals) its.body entry after
 
 abbrev pub HasCodes : Module → List Procedure → Layout → Type 0
 HasCodes own ps l = (p : ℕ) (its : Procedure) → procedure_by ps p ≡ Some its → Entered own l p its
@@ -126,10 +130,29 @@ module _ (activations : List Activation) (h : Home) where
   abbrev pub HasHanded : Frame → List Frame → Type 0
   HasHanded f under = (x offset : ℕ) (t : Shape) → slice_get (offsets_from 4 (locals_in f)) x ≡ Some offset → slice_get (parameters_in f) x ≡ Some (Address t) → is_there t ≡ true → HandedIn f under x offset t
 
-  -- that of each frame, where these bodies are to run behind them
+  -- an open array is a place that the frame and those below can name, and words of the frame have its address and the number of its last element
+  pub record OpenedIn (f : Frame) (under : List Frame) (x offset : ℕ) (t : Shape) : Type 0 where
+    pub its : Activation
+    pub runs : slice_get activations f.activation ≡ Some its
+    pub place : Place
+    pub high : ℕ
+    pub slot : slice_get its.slots x ≡ Some (Along place high)
+    pub seen : sees (f ∷ under) place.root ≡ true
+    pub living : shape_there h place ≡ Row (suc high) t
+    pub low : high ≤ 65535
+    pub own : h.owner (f.at + offset) ≡ Own
+    pub own_high : h.owner (f.at + (offset + 1)) ≡ Own
+    pub word : h.shadow (f.at + offset) ≡ address h place
+    pub word_high : h.shadow (f.at + (offset + 1)) ≡ high
+
+  abbrev pub HasOpened : Frame → List Frame → Type 0
+  HasOpened f under =
+      (x offset : ℕ) (copied : Bool) (t : Shape) → slice_get (offsets_from 4 (locals_in f)) x ≡ Some offset → slice_get (parameters_in f) x ≡ Some (Opened copied t) → is_there t ≡ true → OpenedIn f under x offset t
+
+  -- those of each frame, where these bodies are to run behind them
   abbrev pub EachHanded : List Frame → List Frame → Type 0
   EachHanded [] bodies = Unit {0}
-  EachHanded (f ∷ fs) bodies = HasHanded f (fs ++ bodies) × EachHanded fs bodies
+  EachHanded (f ∷ fs) bodies = HasHanded f (fs ++ bodies) × HasOpened f (fs ++ bodies) × EachHanded fs bodies
 
 module _ (library : List Resolved) (loaded : List ℕ) (table : List Module) (activations : List Activation) (h : Home) where
   -- A frame's module is loaded, its activation runs in it, and its variables live where its layout says. The words of its strings, behind
@@ -144,6 +167,7 @@ module _ (library : List Resolved) (loaded : List ℕ) (table : List Module) (ac
     pub entered : IsNamed f (procedure_name (loaded_at library loaded f.number) f.procedure)
     pub piece : IsPiece f
     pub size : f.layout.frame ≡ frame_of (loaded_at library loaded f.number) f.procedure
+    pub copies : copies_of (loaded_at library loaded f.number) f.procedure its.slots ≡ f.copied
     pub returns : result_here f.layout.scope ≡ result_by (loaded_at library loaded f.number) f.procedure
     pub procedures : f.layout.scope.procedures ≡ map outline_of (procedures_of (loaded_at library loaded f.number))
     pub codes : HasCodes f.own (procedures_of (loaded_at library loaded f.number)) f.layout

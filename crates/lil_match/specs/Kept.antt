@@ -2,17 +2,17 @@
 use Rattle.lil_meaning.specs.Items.{Under, alone}
 use Rattle.lil_match.specs.Parts.{part_fits, word_long}
 use Rattle.lil_match.specs.Homes.{IsWord}
-use Rattle.std.proofs.Common.{◌≡◌, ℕ, zero, suc, length, ◌+◌, ◌<◌, ◌≤◌, inl, inr, true, eqb, List, [], ◌∷◌, ◌++◌, set, get_or, refl, sym, ap, ◌∙◌, subst, ⊎_elim, arith}
+use Rattle.std.proofs.Common.{◌≡◌, ℕ, zero, suc, ◌+◌, ◌<◌, ◌≤◌, inl, inr, true, eqb, List, [], ◌∷◌, ◌++◌, set, get_or, refl, sym, ap, ◌∙◌, subst, ⊎_elim, arith}
 use Rattle.std.proofs.lemmas.{Bool.{ne_eqb}, Option.{none-some, same_Some}}
 use Rattle.std.specs.Prelude.{Option, Some, None, slice_get}
-use Rattle.lil_resolved.specs.{Kinds.{Workspaces, Kind, OfCharacter, OfSet, OfPointer, Scalar, within, Shape, Absent, Word, Row, Address, Opened, words as size, is_there, part_at, offset, all_words, offsets_from}, Resolved.{Resolved, Argument, Arguments, NoMore, Also, kind_of, shape_of}, Plain.parameter_variable}
-use Rattle.lil_meaning.specs.Items.{Root, Global, Local, Object, Place, Datum, Scalars, Places, Wholes, Opens, Texts, Requested, Called, IndexAt, StoreAt, CopyFrom, ChangeAt, RightOf, MemberOf, MembersFrom, MembersTo, MemberAt, AllocateAt, Pass, PassPlace, PassAll, PassArray, Returning, LimitOf, Passing, Looping, Turns, Holding, End, Item, Value, Fill, Perform, Activation, Source}
+use Rattle.lil_resolved.specs.{Kinds.{Workspaces, Kind, OfCharacter, OfSet, OfPointer, Scalar, within, Shape, Absent, Word, Row, Address, Opened, words as size, is_there, part_at, offset, element_of, all_words, offsets_from}, Resolved.{Resolved, Arguments, kind_of, shape_of}, Plain.parameter_variable}
+use Rattle.lil_meaning.specs.Items.{Root, Global, Local, Object, Place, Datum, Scalars, Places, Wholes, Opens, Texts, Requested, Called, IndexAt, AlongAt, StoreAt, CopyFrom, ChangeAt, RightOf, MemberOf, MembersFrom, MembersTo, MemberAt, AllocateAt, Pass, PassPlace, PassAll, PassArray, LimitOf, Passing, Looping, Turns, Holding, End, Item, Value, Fill, Perform, Activation, Source}
 use Rattle.lil_meaning.specs.Steps.{outer_of, surrounding}
 use Rattle.lil_mcode.specs.Table.{Module, StackRegisters, State, stack_of}
 use Rattle.lil_table.specs.Rows.{Layout, holding, Access, OnTop, loop_place}
 use Rattle.lil_match.specs.{Parts.no, Homes.{word_for, word_kept, refers_kept, is_word_kept, Refers, plain_refers, takes_plain, Extends, extends_self, lives, address, shape_there, Owner, Own, Fixed, own_fixed, Home, mem_shadowed, shadowed, replaced}}
-use Rattle.lil_match.specs.{Waits.{Mode, Quiet, ValueOf, AtPlace, Reach, AfterJumps, Onward, Part, Around, Frame, own_words, locals_in, top_of, outside, frames_of, Setting, at_home, renewed, inside_with, pushing, with_frames, DatumOn, DataOn, IsLink, GivenAll, GivenWords, AllGiven, Pending, Resumed, AStatement, AValue, AreSaved, saved_words, sees, TurnsTask, Reaches, HasPlace, HasSet, needs, Behind, RowsOf, Rows}, Known.{known_kept, each_known, each_comes, sees_more, each_local}}
-use Rattle.lil_match.specs.Goes.{OwnWords, Stands, Grows, Linked, Chained, HasHanded, EachHanded, EachComes, Standing, Shared, Touches}
+use Rattle.lil_match.specs.{Waits.{Mode, Quiet, ValueOf, AtPlace, Reach, AfterJumps, Onward, Part, Around, Frame, own_words, locals_in, top_of, outside, frames_of, Setting, at_home, renewed, inside_with, pushing, with_frames, ArrayOn, DatumOn, DataOn, IsLink, GivenAll, GivenWords, AllGiven, Pending, Resumed, AStatement, AValue, AreSaved, saved_words, sees, TurnsTask, Reaches, HasPlace, HasSet, needs, Behind, RowsOf, Rows}, Known.{known_kept, each_known, each_comes, sees_more, each_local}}
+use Rattle.lil_match.specs.Goes.{OwnWords, Stands, Grows, Linked, Chained, HasHanded, HasOpened, EachHanded, EachComes, Standing, Shared, Touches}
 
 -- the words that pending calls have put above the running frame stay
 abbrev pub PushedKept : Home → Home → List Frame → Type 0
@@ -53,8 +53,8 @@ root_there Absent [] e = e
 root_there Absent (i ∷ p) e = e
 root_there (Address to) [] e = e
 root_there (Address to) (i ∷ p) e = e
-root_there (Opened to) [] e = e
-root_there (Opened to) (i ∷ p) e = e
+root_there (Opened copied to) [] e = e
+root_there (Opened copied to) (i ∷ p) e = e
 root_there t p e = refl
 
 pub place_lives : (h : Home) (place : Place) (t : Shape) → shape_there h place ≡ t → is_there t ≡ true → lives h place.root ≡ true
@@ -95,11 +95,14 @@ module _ (ctx : Setting) (acts : List Activation) (x : Home) (n low top : ℕ) (
   set_kept : (u : Scalar) (stack below : List ℕ) → HasSet ctx u stack below → HasSet (renewed ctx acts x n) u stack below
   set_kept u stack below r = record { fits = r.fits; is = r.is ∙ ap (λ (w : ℕ). w ∷ below) (word OfSet u r.fits tt) }
 
+  array_kept : (t : Shape) (place : Place) (high : ℕ) (stack below : List ℕ) → ArrayOn ctx t place high stack below → ArrayOn (renewed ctx acts x n) t place high stack below
+  array_kept t place high stack below r =
+      let has = place_kept OnTop place (Row (suc high) t) (address h place ∷ below) below r.has in
+      record { has = record { seen = has.seen; living = has.living; there = has.there; at = refl }; low = r.low; is = r.is ∙ ap (λ (s : List ℕ). high ∷ s) has.at }
+
   datum_kept : (d : Datum) (stack below : List ℕ) → DatumOn ctx d stack below → DatumOn (renewed ctx acts x n) d stack below
   datum_kept (Scalars v) stack below r = r
-  datum_kept (Opens place high) stack below r =
-      let has = place_kept OnTop place (Row (suc high) (Word OfCharacter)) (address h place ∷ below) below r.has in
-      record { has = record { seen = has.seen; living = has.living; there = has.there; at = refl }; is = r.is ∙ ap (λ (s : List ℕ). high ∷ s) has.at }
+  datum_kept (Opens place high) stack below r = array_kept (Word OfCharacter) place high stack below r
   datum_kept (Texts cs) stack below r = record { offset = r.offset; text = r.text; is = r.is }
   datum_kept (Places place) stack below r = absurd r
   datum_kept (Wholes u) stack below r = absurd r
@@ -127,8 +130,15 @@ module _ (ctx : Setting) (acts : List Activation) (x : Home) (n low top : ℕ) (
       let moved : address h place ≡ address x place = omega (arith, keeps.base place.root r.seen alive, ap (λ (t : Shape). offset t place.path) kept) in
       let first : x.shadow at ≡ h.shadow at = ap x.shadow (let e : at ≡ at + 0 = omega arith in e) ∙ same 0 (omega (arith, ap size r.is)) ∙ ap h.shadow (let e : at + 0 ≡ at = omega arith in e) in
       record { to = r.to; is = r.is; seen = r.seen; living = ap (λ (t : Shape). part_at t place.path) kept ∙ r.living; there = r.there; word = first ∙ r.word ∙ moved }
-  words_given t (Opens place high) at same r = absurd r
-  words_given t (Texts cs) at same r = absurd r
+  words_given t (Opens place high) at same r =
+      let alive = place_lives h place (Row (suc high) r.to) r.living refl in
+      let kept = keeps.shape place.root r.seen alive in
+      let moved : address h place ≡ address x place = omega (arith, keeps.base place.root r.seen alive, ap (λ (t : Shape). offset t place.path) kept) in
+      let first : x.shadow at ≡ h.shadow at = ap x.shadow (let e : at ≡ at + 0 = omega arith in e) ∙ same 0 (omega (arith, ap size r.is)) ∙ ap h.shadow (let e : at + 0 ≡ at = omega arith in e) in
+      record { copied = r.copied; to = r.to; is = r.is; seen = r.seen; living = ap (λ (t : Shape). part_at t place.path) kept ∙ r.living; there = r.there; low = r.low; word = first ∙ r.word ∙ moved; word_high = same 1 (omega (arith, ap size r.is)) ∙ r.word_high }
+  words_given t (Texts cs) at same r =
+      let first : x.shadow at ≡ h.shadow at = ap x.shadow (let e : at ≡ at + 0 = omega arith in e) ∙ same 0 (omega (arith, ap size r.is)) ∙ ap h.shadow (let e : at + 0 ≡ at = omega arith in e) in
+      record { is = r.is; offset = r.offset; text = r.text; word = first ∙ r.word; word_high = same 1 (omega (arith, ap size r.is)) ∙ r.word_high }
 
   pub all_given : (ts : List Shape) (ds : List Datum) (at : ℕ) → ((i : ℕ) → i < all_words ts → x.shadow (at + i) ≡ h.shadow (at + i)) → AllGiven ctx ts ds at → AllGiven (renewed ctx acts x n) ts ds at
   all_given [] [] at same r = r
@@ -148,6 +158,8 @@ module _ (ctx : Setting) (acts : List Activation) (x : Home) (n low top : ℕ) (
       record { part = record { of = r.of; below = r.below; has = place_kept _ place _ stack r.below r.has }; onto = refl }
   met (ValueOf j) (Fill (IndexAt place k)) p stack a r =
       record { part = record { of = r.of; index = r.index; same = r.same; from = r.from; below = r.below; did = r.did; at = r.at; has = place_kept OnTop place _ stack r.below r.has }; onto = refl }
+  met (ValueOf j) (Fill (AlongAt place high)) p stack a r =
+      record { part = record { n = r.n; x = r.x; index = r.index; same = r.same; from = r.from; below = r.below; did = r.did; at = r.at; on = array_kept r.did.here.opened.element place high stack r.below r.on }; onto = refl }
   met (AtPlace d) (Fill (CopyFrom to)) p stack a r =
       record { part = record { of = r.of; amid = r.amid; has = place_kept OnTop to _ stack [] r.has }; onto = refl }
   met (ValueOf j) (Fill (MemberAt out place k)) p stack a r =
@@ -186,7 +198,7 @@ module _ (ctx : Setting) (acts : List Activation) (x : Home) (n low top : ℕ) (
       record { part = record { takes = r.takes; on = data_kept done stack [] r.on; tested = r.tested; test = r.test; rest = r.rest }; onto = refl }
   met (AtPlace d) (Fill (PassArray (Requested q) high done left)) p stack a r =
       record {
-        part = record { rows = r.rows; room = r.room; on = data_kept done stack [] r.on; start = r.start; last = r.last; address = r.address; by = r.by; rest = r.rest };
+        part = record { rows = r.rows; low = r.low; room = r.room; on = data_kept done stack [] r.on; start = r.start; last = r.last; address = r.address; by = r.by; rest = r.rest };
         onto = refl;
       }
   met Quiet (Perform (Passing (Requested q) done left)) p stack a r =
@@ -326,6 +338,8 @@ pending_kept k acts rows ctx x n low above q levels done next left p c a keeps w
       saved = saved_kept ctx.home.shadow x.shadow w.resumed top (λ i less. same i (omega (arith, less))) w.saved;
       outer = w.outer;
       around = w.around;
+      later = w.later;
+      count = w.count;
       may = w.may;
       returns = w.returns;
       takes = w.takes;
@@ -340,7 +354,7 @@ pending_kept k acts rows ctx x n low above q levels done next left p c a keeps w
       after = w.after;
       restore = w.restore;
       within = w.within;
-      then = rows w.before x n low (subst (λ (c : Setting). EachAbove low (frames_of c.stack)) w.is above) _ w.after _ c w.outer
+      then = rows w.before x n low (subst (λ (c : Setting). EachAbove low (frames_of c.stack)) w.is above) _ w.after _ w.later w.outer
           (subst (λ (t : ℕ). Keeps w.before.home x (frames_of w.before.stack) low (w.before.stack.frame.at + loop_place t)) (ap (λ (o : Around). o.taken) w.around)
           (keeps_before ctx w.before x (below + (4 + all_words w.shapes)) low (loop_place a.taken) w.is keeps))
           w.then;
@@ -495,6 +509,24 @@ rows_renewed (Fill (PassAll (Called q levels) done left) ∷ k) ctx acts x n low
       push = w.push;
       pending = pending_kept k acts (λ y z i l. rows_renewed k y acts z i l) ctx x n low above q levels done (shape_of ctx.stack.frame.layout.scope w.of ∷ []) left w.start r.later a keeps w.pending;
     })
+rows_renewed (Fill (PassArray (Called q levels) high done left) ∷ k) ctx acts x n low above t p stack c a keeps r =
+    let w = r.there in
+    jumps_same ctx.stack.frame.piece _ _ t p stack c a r (record {
+      of = w.of;
+      mode = w.mode;
+      empty = w.empty;
+      rows = w.rows;
+      there = w.there;
+      low = w.low;
+      tested = w.tested;
+      address = w.address;
+      first = w.first;
+      by = w.by;
+      start = w.start;
+      push = w.push;
+      copied = w.copied;
+      pending = pending_kept k acts (λ y z i l. rows_renewed k y acts z i l) ctx x n low above q levels done (Opened w.copied (element_of (shape_of ctx.stack.frame.layout.scope w.of)) ∷ []) left w.start r.later a keeps w.pending;
+    })
 rows_renewed (i ∷ k) ctx acts x n low above t p stack c a keeps r =
     let m = met ctx acts x n low (ctx.stack.frame.at + loop_place a.taken) keeps t i r.start stack a r.there.part in
     jumps_same ctx.stack.frame.piece _ _ t p stack c a r (record {
@@ -551,7 +583,7 @@ stack_above ctx r s = stands_above ctx.home.owner ctx.stack.base r.top ctx.stack
 pending_behind : (ctx : Setting) (q levels : ℕ) (done : List Datum) (next : List Shape) (left : Arguments) (k : List Item) (p c : ℕ) (a : Around) → Pending ctx q levels done next left (RowsOf k) p c a
     → ((y : Setting) (t : Mode) (p : ℕ) (stack : List ℕ) (c : ℕ) (a : Around) → Rows y k t p stack c a → own_words y.stack.frame ≤ a.taken) → own_words ctx.stack.frame ≤ a.taken
 pending_behind ctx q levels done next left k p c a w rest =
-    omega (arith, rest w.before _ w.after _ c w.outer w.then, ap (λ (o : Around). o.taken) w.around, ap (λ (y : Setting). own_words y.stack.frame) w.is)
+    omega (arith, rest w.before _ w.after _ w.later w.outer w.then, ap (λ (o : Around). o.taken) w.around, ap (λ (y : Setting). own_words y.stack.frame) w.is)
 
 pub loops_behind : (k : List Item) (ctx : Setting) (t : Mode) (p : ℕ) (stack : List ℕ) (c : ℕ) (a : Around) → Rows ctx k t p stack c a → own_words ctx.stack.frame ≤ a.taken
 loops_behind [] ctx t p stack c a r = absurd r
@@ -564,7 +596,27 @@ loops_behind (Perform (End n) ∷ k) ctx t p stack c a r = omega (arith, ap (λ 
 loops_behind (Fill (Pass (Called q levels) kind done left) ∷ k) ctx t p stack c a r = pending_behind ctx q levels done _ left k _ _ a r.there.pending (λ y t p stack c a. loops_behind k y t p stack c a)
 loops_behind (Fill (PassPlace (Called q levels) done left) ∷ k) ctx t p stack c a r = pending_behind ctx q levels done _ left k _ _ a r.there.pending (λ y t p stack c a. loops_behind k y t p stack c a)
 loops_behind (Fill (PassAll (Called q levels) done left) ∷ k) ctx t p stack c a r = pending_behind ctx q levels done _ left k _ _ a r.there.pending (λ y t p stack c a. loops_behind k y t p stack c a)
+loops_behind (Fill (PassArray (Called q levels) high done left) ∷ k) ctx t p stack c a r = pending_behind ctx q levels done _ left k _ _ a r.there.pending (λ y t p stack c a. loops_behind k y t p stack c a)
 loops_behind (i ∷ k) ctx t p stack c a r = loops_behind k ctx _ _ _ _ _ r.there.then
+
+-- the words of copies lie below those of pending calls
+pending_above : (ctx : Setting) (q levels : ℕ) (done : List Datum) (next : List Shape) (left : Arguments) (k : List Item) (p c : ℕ) (a : Around) → Pending ctx q levels done next left (RowsOf k) p c a
+    → ((y : Setting) (t : Mode) (p : ℕ) (stack : List ℕ) (c : ℕ) (a : Around) → Rows y k t p stack c a → y.stack.frame.copied ≤ y.stack.frame.pushed) → ctx.stack.frame.copied ≤ ctx.stack.frame.pushed
+pending_above ctx q levels done next left k p c a w rest =
+    omega (arith, rest w.before _ w.after _ w.later w.outer w.then, ap (λ (y : Setting). y.stack.frame.copied) w.is, ap (λ (y : Setting). y.stack.frame.pushed) w.is)
+
+pub copies_below : (k : List Item) (ctx : Setting) (t : Mode) (p : ℕ) (stack : List ℕ) (c : ℕ) (a : Around) → Rows ctx k t p stack c a → ctx.stack.frame.copied ≤ ctx.stack.frame.pushed
+copies_below [] ctx t p stack c a r = absurd r
+copies_below (Perform (Looping body) ∷ k) ctx t p stack c a r = copies_below k ctx _ _ _ _ r.there.outer r.there.then
+copies_below (Perform (Turns n kind z step left body) ∷ k) ctx t p stack c a r = ⊎_elim (λ w. copies_below k ctx _ _ _ _ _ w.then) (λ w. copies_below k ctx _ _ _ _ w.outer w.then) r.there
+copies_below (Perform (Holding place) ∷ k) ctx t p stack c a r =
+    omega (arith, copies_below k r.there.before _ _ _ _ r.there.outer r.there.then, ap (λ (y : Setting). y.stack.frame.copied) r.there.is, ap (λ (y : Setting). y.stack.frame.pushed) r.there.is)
+copies_below (Perform (End n) ∷ k) ctx t p stack c a r = omega (arith, r.there.idle)
+copies_below (Fill (Pass (Called q levels) kind done left) ∷ k) ctx t p stack c a r = pending_above ctx q levels done _ left k _ _ a r.there.pending (λ y t p stack c a. copies_below k y t p stack c a)
+copies_below (Fill (PassPlace (Called q levels) done left) ∷ k) ctx t p stack c a r = pending_above ctx q levels done _ left k _ _ a r.there.pending (λ y t p stack c a. copies_below k y t p stack c a)
+copies_below (Fill (PassAll (Called q levels) done left) ∷ k) ctx t p stack c a r = pending_above ctx q levels done _ left k _ _ a r.there.pending (λ y t p stack c a. copies_below k y t p stack c a)
+copies_below (Fill (PassArray (Called q levels) high done left) ∷ k) ctx t p stack c a r = pending_above ctx q levels done _ left k _ _ a r.there.pending (λ y t p stack c a. copies_below k y t p stack c a)
+copies_below (i ∷ k) ctx t p stack c a r = copies_below k ctx _ _ _ _ _ r.there.then
 
 -- and in the frame
 pub pending_fits : (ctx : Setting) (q levels : ℕ) (done : List Datum) (next : List Shape) (left : Arguments) (k : List Item) (p c : ℕ) (a : Around) → 4 + own_words ctx.stack.frame ≤ ctx.stack.frame.layout.frame
@@ -573,7 +625,7 @@ pub pending_fits : (ctx : Setting) (q levels : ℕ) (done : List Datum) (next : 
 pending_fits ctx q levels done next left k p c a mark w rest =
     let frame : ctx.stack.frame.layout.frame ≡ w.before.stack.frame.layout.frame = ap (λ (y : Setting). y.stack.frame.layout.frame) w.is in
     let words : own_words ctx.stack.frame ≡ own_words w.before.stack.frame = ap (λ (y : Setting). own_words y.stack.frame) w.is in
-    omega (arith, rest w.before _ w.after _ c w.outer (omega (arith, mark, frame, words)) w.then, ap (λ (o : Around). o.taken) w.around, frame)
+    omega (arith, rest w.before _ w.after _ w.later w.outer (omega (arith, mark, frame, words)) w.then, ap (λ (o : Around). o.taken) w.around, frame)
 
 pub loops_fit : (k : List Item) (ctx : Setting) (t : Mode) (p : ℕ) (stack : List ℕ) (c : ℕ) (a : Around) → 4 + own_words ctx.stack.frame ≤ ctx.stack.frame.layout.frame → Rows ctx k t p stack c a
     → loop_place a.taken ≤ ctx.stack.frame.layout.frame
@@ -588,6 +640,7 @@ loops_fit (Perform (End n) ∷ k) ctx t p stack c a mark r = omega (arith, ap (�
 loops_fit (Fill (Pass (Called q levels) kind done left) ∷ k) ctx t p stack c a mark r = pending_fits ctx q levels done _ left k _ _ a mark r.there.pending (λ y t p stack c a. loops_fit k y t p stack c a)
 loops_fit (Fill (PassPlace (Called q levels) done left) ∷ k) ctx t p stack c a mark r = pending_fits ctx q levels done _ left k _ _ a mark r.there.pending (λ y t p stack c a. loops_fit k y t p stack c a)
 loops_fit (Fill (PassAll (Called q levels) done left) ∷ k) ctx t p stack c a mark r = pending_fits ctx q levels done _ left k _ _ a mark r.there.pending (λ y t p stack c a. loops_fit k y t p stack c a)
+loops_fit (Fill (PassArray (Called q levels) high done left) ∷ k) ctx t p stack c a mark r = pending_fits ctx q levels done _ left k _ _ a mark r.there.pending (λ y t p stack c a. loops_fit k y t p stack c a)
 loops_fit (i ∷ k) ctx t p stack c a mark r = loops_fit k ctx _ _ _ _ _ mark r.there.then
 
 -- activations stay linked as long as the first words of their frames stay
@@ -642,18 +695,45 @@ module _ (activations more : List Activation) (grows : Grows more activations) (
         word = word.1 ∙ l.word ∙ moved;
       }
 
+  opened_kept : (f : Frame) (under : List Frame) → ((i : ℕ) → 4 ≤ i → i < 4 + own_words f → (x.owner (f.at + i) ≡ h.owner (f.at + i)) × (x.shadow (f.at + i) ≡ h.shadow (f.at + i)))
+      → ((r : Root) → sees (f ∷ under) r ≡ true → lives h r ≡ true → x.base r ≡ h.base r) → ((r : Root) → sees (f ∷ under) r ≡ true → lives h r ≡ true → x.shape r ≡ h.shape r) → HasOpened activations h f under → HasOpened more x f under
+  opened_kept f under same base shape opened y o copied t at typed there =
+      let l = opened y o copied t at typed there in
+      let low = offset_low 4 (locals_in f) y o (Opened copied t) at (parameter_variable f.layout.scope 0 y (Opened copied t) typed) in
+      let word = same o low.0 (omega (arith, low.1)) in
+      let word_high = same (o + 1) (omega (arith, low.0)) (omega (arith, low.1)) in
+      let alive = place_lives h l.place (Row (suc l.high) t) l.living refl in
+      let kept = shape l.place.root l.seen alive in
+      let moved : address h l.place ≡ address x l.place = omega (arith, base l.place.root l.seen alive, ap (λ (t : Shape). offset t l.place.path) kept) in
+      record {
+        its = l.its;
+        runs = grows f.activation l.its l.runs;
+        place = l.place;
+        high = l.high;
+        slot = l.slot;
+        seen = l.seen;
+        living = ap (λ (t : Shape). part_at t l.place.path) kept ∙ l.living;
+        low = l.low;
+        own = word.0 ∙ l.own;
+        own_high = word_high.0 ∙ l.own_high;
+        word = word.1 ∙ l.word ∙ moved;
+        word_high = word_high.1 ∙ l.word_high;
+      }
+
   pub each_handed : (base top : ℕ) (f : Frame) (gs : List Frame) → Stands h.owner base top f gs → ((a : ℕ) → base ≤ a → a < f.at + (4 + own_words f) → (x.owner a ≡ h.owner a) × (x.shadow a ≡ h.shadow a))
       → ((r : Root) → sees (f ∷ (gs ++ bodies)) r ≡ true → lives h r ≡ true → x.base r ≡ h.base r) → ((r : Root) → sees (f ∷ (gs ++ bodies)) r ≡ true → lives h r ≡ true → x.shape r ≡ h.shape r)
       → EachHanded activations h (f ∷ gs) bodies → EachHanded more x (f ∷ gs) bodies
   each_handed base top f [] stands same bases shapes e = (
     handed_kept f bodies (λ i from below. same (f.at + i) (omega (arith, stands.1)) (omega (arith, below))) (λ r s. bases r (sees_more f bodies r s)) (λ r s. shapes r (sees_more f bodies r s)) e.0,
+    opened_kept f bodies (λ i from below. same (f.at + i) (omega (arith, stands.1)) (omega (arith, below))) bases shapes e.1,
     tt,
   )
   each_handed base top f (g ∷ gs) stands same bases shapes e =
       let low = first_words h.owner base f.at g gs stands.1 in (
         handed_kept f (g ∷ (gs ++ bodies)) (λ i from below. same (f.at + i) (omega (arith, (stands_above h.owner base top f (g ∷ gs) [] stands tt).0)) (omega (arith, below)))
             (λ r s. bases r (sees_more f (g ∷ (gs ++ bodies)) r s)) (λ r s. shapes r (sees_more f (g ∷ (gs ++ bodies)) r s)) e.0,
-        each_handed base f.at g gs stands.1 (λ a from below. same a from (omega (arith, below, low.top_is, low.mark))) (λ r s. bases r (sees_more f (g ∷ (gs ++ bodies)) r s)) (λ r s. shapes r (sees_more f (g ∷ (gs ++ bodies)) r s)) e.1,
+        opened_kept f (g ∷ (gs ++ bodies)) (λ i from below. same (f.at + i) (omega (arith, (stands_above h.owner base top f (g ∷ gs) [] stands tt).0)) (omega (arith, below))) bases shapes e.1,
+        each_handed base f.at g gs stands.1 (λ a from below. same a from (omega (arith, below, low.top_is, low.mark))) (λ r s. bases r (sees_more f (g ∷ (gs ++ bodies)) r s)) (λ r s. shapes r (sees_more f (g ∷ (gs ++ bodies)) r s)) e.2,
       )
 
 -- ---- one of the running frame's own words behind its variables is set
@@ -667,7 +747,7 @@ module _ (ctx : Setting) (s : Source) (m : State) (shared : Shared ctx s m) (i w
   words = first_words h.owner st.base m.top st.frame st.callers shared.standing.stands
 
   pub own_word : h.owner (st.frame.at + i) ≡ Own
-  own_word = words.own i (inr free) (omega (arith, words.top_is, less))
+  own_word = words.own i (inr (free, inl less)) (omega (arith, words.top_is, less))
 
   pub own_inside : (st.base ≤ st.frame.at + i) × (st.frame.at + i < st.limit)
   own_inside = (omega (arith, (stack_above ctx (stack_of m) shared.standing).0), omega (arith, words.top_is, less, shared.standing.low))

@@ -23,6 +23,7 @@ module _ (library : List Resolved) (loaded : List ℕ) (table : List Module) (ac
         entered = g.entered;
         piece = g.piece;
         size = g.size;
+        copies = g.copies;
         returns = g.returns;
         procedures = g.procedures;
         codes = g.codes;
@@ -55,7 +56,7 @@ or_first : (a b : Bool) → a ≡ true → (a || b) ≡ true
 or_first true b e = refl
 or_first false b e = cc
 
-own_seen : (f : Frame) (fs : List Frame) (y : ℕ) → sees (f ∷ fs) (Local f.activation y) ≡ true
+pub own_seen : (f : Frame) (fs : List Frame) (y : ℕ) → sees (f ∷ fs) (Local f.activation y) ≡ true
 own_seen f fs y = or_first (is_of f.activation f) (list_any (is_of f.activation) fs) (eq-eqb f.activation f.activation refl)
 
 -- variables live on where they are

@@ -1,11 +1,11 @@
 -- What is around the running frame's WITHs: the same but for the records that its layout holds.
-use Rattle.std.proofs.Common.{◌≡◌, ℕ, ◌+◌, ◌<◌, ◌≤◌, inl, inr, Some, List, [], ◌∷◌, ◌++◌, length, get_or, refl, sym, ap, ◌∙◌, subst, ⊎_elim, arith}
+use Rattle.std.proofs.Common.{◌≡◌, ℕ, ◌+◌, ◌<◌, ◌≤◌, ◌⊎◌, inl, inr, Some, List, [], ◌∷◌, ◌++◌, length, get_or, refl, sym, ap, ◌∙◌, subst, ⊎_elim, arith}
 use Rattle.std.specs.Prelude.{slice_get}
 use Rattle.lil_resolved.specs.{Kinds.{result_here, Shape, all_words, locals_at, parameters_at, offsets_from}, Resolved.{Procedure, Resolved}}
-use Rattle.lil_meaning.specs.{Items.{Root, Global, Local, Object, Item, Activation, Source, loaded_at}, Need.frame_of, Steps.{result_by, owner_of, procedure_of, procedures_of, procedure_name}}
+use Rattle.lil_meaning.specs.{Items.{Root, Global, Local, Object, Item, Activation, Source, loaded_at}, Need.{frame_of, copies_of}, Steps.{result_by, owner_of, procedure_of, procedures_of, procedure_name}}
 use Rattle.lil_mcode.specs.Table.{Module, State, StackRegisters, stack_of}
 use Rattle.lil_table.specs.Rows.{Layout, holding}
-use Rattle.lil_match.specs.{Homes.Home, Goes.{IsNamed, IsPiece, OwnWords, Stands, Linked, Chained, IsPart, module_part, HasCodes, IsKnown, Standing, EachLocal, EachHanded, beyond, Shared, Goes}, Waits.{Frame, Setting, inside_with}}
+use Rattle.lil_match.specs.{Homes.Home, Goes.{IsNamed, IsPiece, OwnWords, Stands, Linked, Chained, IsPart, module_part, HasCodes, IsKnown, Standing, EachLocal, EachHanded, beyond, Shared, Goes}, Waits.{Frame, Setting, inside_with}, Kept.sees_laid}
 
 -- the running frame with another layout
 abbrev pub with_layout : Setting → Layout → Setting
@@ -25,9 +25,9 @@ codes_part own ps l m part codes p its is =
     record { inner = e.inner; part = e.part ∙ sym part; frame = e.frame; chain = e.chain; free = e.free; entry = e.entry; there = e.there; after = e.after; within = e.within; apart = e.apart; code = e.code }
 
 -- what is known of a frame is known of another one of the module
-module _ (library : List Resolved) (loaded : List ℕ) (table : List Module) (acts more : List Activation) (h : Home) (f : Frame) (m : Layout) (activation procedure entry after : ℕ) (piece : List ℕ) (at pushed : ℕ) (display : List ℕ) (back : ℕ) (part : IsPart f.layout m) where
+module _ (library : List Resolved) (loaded : List ℕ) (table : List Module) (acts more : List Activation) (h : Home) (f : Frame) (m : Layout) (activation procedure entry after : ℕ) (piece : List ℕ) (at pushed copied : ℕ) (display : List ℕ) (back : ℕ) (part : IsPart f.layout m) where
   abbrev other : Frame
-  other = record { activation = activation; number = f.number; procedure = procedure; own = f.own; entry = entry; after = after; piece = piece; layout = m; at = at; pushed = pushed; display = display; back = back }
+  other = record { activation = activation; number = f.number; procedure = procedure; own = f.own; entry = entry; after = after; piece = piece; layout = m; at = at; pushed = pushed; copied = copied; display = display; back = back }
 
   strings : m.strings ≡ f.layout.strings
   strings = ap (λ (y : Layout). y.strings) part
@@ -36,9 +36,9 @@ module _ (library : List Resolved) (loaded : List ℕ) (table : List Module) (ac
   words = ap (λ (y : Layout). y.words) part
 
   pub known_part : (its : Activation) → slice_get more activation ≡ Some its → owner_of (slice_get more activation) ≡ f.number → procedure_of (slice_get more activation) ≡ procedure
-      → IsNamed other (procedure_name (loaded_at library loaded f.number) procedure) → IsPiece other → m.frame ≡ frame_of (loaded_at library loaded f.number) procedure → result_here m.scope ≡ result_by (loaded_at library loaded f.number) procedure → IsKnown library loaded table acts h f
+      → IsNamed other (procedure_name (loaded_at library loaded f.number) procedure) → IsPiece other → m.frame ≡ frame_of (loaded_at library loaded f.number) procedure → copies_of (loaded_at library loaded f.number) procedure its.slots ≡ copied → result_here m.scope ≡ result_by (loaded_at library loaded f.number) procedure → IsKnown library loaded table acts h f
       → IsKnown library loaded table more h other
-  known_part its runs owner called entered its_piece size returns k = record {
+  known_part its runs owner called entered its_piece size copies_are returns k = record {
     known = k.known;
     named = k.named;
     its = its;
@@ -48,6 +48,7 @@ module _ (library : List Resolved) (loaded : List ℕ) (table : List Module) (ac
     entered = entered;
     piece = its_piece;
     size = size;
+    copies = copies_are;
     returns = returns;
     procedures = ap (λ (y : Layout). y.scope.procedures) part ∙ k.procedures;
     codes = codes_part f.own (procedures_of (loaded_at library loaded f.number)) f.layout m part k.codes;
@@ -81,13 +82,13 @@ module _ (ctx : Setting) (m : Layout) (alike : IsAlike ctx.stack.frame.layout m)
   same_locals = ap (λ (y : Layout). locals_at y.scope 0) alike
 
   known_laid : IsKnown ctx.library ctx.loaded ctx.table ctx.activations ctx.home ctx.stack.frame → IsKnown ctx.library ctx.loaded ctx.table ctx.activations ctx.home (record (ctx.stack.frame) { layout = m })
-  known_laid k = known_part ctx.library ctx.loaded ctx.table ctx.activations ctx.activations ctx.home f m f.activation f.procedure f.entry f.after f.piece f.at f.pushed f.display f.back (ap module_part alike) k.its k.runs k.owner k.called (record { there = k.entered.there; apart = k.entered.apart }) (record { is = k.piece.is; within = k.piece.within }) (same_frame ∙ k.size) (ap (λ (y : Layout). result_here y.scope) alike ∙ k.returns) k
+  known_laid k = known_part ctx.library ctx.loaded ctx.table ctx.activations ctx.activations ctx.home f m f.activation f.procedure f.entry f.after f.piece f.at f.pushed f.copied f.display f.back (ap module_part alike) k.its k.runs k.owner k.called (record { there = k.entered.there; apart = k.entered.apart }) (record { is = k.piece.is; within = k.piece.within }) (same_frame ∙ k.size) k.copies (ap (λ (y : Layout). result_here y.scope) alike ∙ k.returns) k
 
   words_laid : (top : ℕ) → OwnWords ctx.home.owner ctx.stack.frame top → OwnWords ctx.home.owner (record (ctx.stack.frame) { layout = m }) top
   words_laid top w = record {
     mark = omega (arith, w.mark, same_frame, ap all_words same_locals);
     top_is = omega (arith, w.top_is, same_frame);
-    own = λ i free. w.own i (⊎_elim (λ (z : i < 4). inl z) (λ (z : 4 + all_words (locals_at m.scope 0) ≤ i). inr (omega (arith, z, ap all_words same_locals))) free);
+    own = λ i free. w.own i (⊎_elim (λ (z : i < 4). inl z) (λ (z : (4 + all_words (locals_at m.scope 0) ≤ i) × ((i < m.frame) ⊎ (m.frame + f.copied ≤ i))). inr (omega (arith, z.0, ap all_words same_locals), ⊎_elim (λ (y : i < m.frame). inl (omega (arith, y, same_frame))) (λ (y : m.frame + f.copied ≤ i). inr (omega (arith, y, same_frame))) z.1)) free);
     mine = w.mine;
   }
 
@@ -110,7 +111,10 @@ module _ (ctx : Setting) (m : Layout) (alike : IsAlike ctx.stack.frame.layout m)
     λ x o t at typed there.
         let l = e.0 x o t (ap (λ (ts : List Shape). slice_get (offsets_from 4 ts) x) (sym same_locals) ∙ at) (ap (λ (ts : List Shape). slice_get ts x) (sym same_parameters) ∙ typed) there in
         record { its = l.its; runs = l.runs; place = l.place; slot = l.slot; seen = l.seen; living = l.living; own = l.own; word = l.word },
-    e.1,
+    λ x o copied t at typed there.
+        let l = e.1 x o copied t (ap (λ (ts : List Shape). slice_get (offsets_from 4 ts) x) (sym same_locals) ∙ at) (ap (λ (ts : List Shape). slice_get ts x) (sym same_parameters) ∙ typed) there in
+        record { its = l.its; runs = l.runs; place = l.place; high = l.high; slot = l.slot; seen = sees_laid f m (gs ++ bs) l.place.root ∙ l.seen; living = l.living; low = l.low; own = l.own; own_high = l.own_high; word = l.word; word_high = l.word_high },
+    e.2,
   )
 
   stands_laid : (base top : ℕ) (gs : List Frame) → Stands ctx.home.owner base top ctx.stack.frame gs → Stands ctx.home.owner base top (record (ctx.stack.frame) { layout = m }) gs

@@ -1,9 +1,9 @@
 -- Where parts stand: behind their start, and within the code.
-use Rattle.std.proofs.Common.{ℕ, ◌+◌, ◌<◌, ◌≤◌, List, [], ◌∷◌, length, Option, arith}
-use Rattle.lil_resolved.specs.Resolved.{Expression, Constant, Taken, One, Two, Short, Apply, With, WithSpan, Invoke, Argument, Arguments, NoMore, Also, ByValue, OfPlace, OfAll, OfArray, OfText, Statement, Statements, kind_of}
+use Rattle.std.proofs.Common.{ℕ, Bool, false, ◌+◌, ◌<◌, ◌≤◌, List, [], ◌∷◌, length, Option, arith}
+use Rattle.lil_resolved.specs.Resolved.{Expression, Constant, Taken, One, Two, Short, Apply, With, WithSpan, Invoke, High, Argument, Arguments, NoMore, Also, ByValue, OfPlace, OfAll, OfArray, OfText, OfOpened, Statement, Statements, kind_of}
 use Rattle.lil_resolved.specs.Sizes.{argument_words}
 use Rattle.lil_asm.specs.{declared.instr.Instr.{Instr, TheVariants.{Liw, Lag, Dup, Spn, Rst}}, Decoding.decoded_stands}
-use Rattle.lil_table.specs.{Lengths.{instrs_long, place_long, expression_long, statement_long, body_long}, Rows.{Layout, IsAt, InstrsAt, one_code, two_code, test_code, function_code, access_of, address_code, ExpressionAt, ArgumentAt, ArgumentsAt, StatementAt, BodyAt, short_code}}
+use Rattle.lil_table.specs.{Lengths.{instrs_long, place_long, expression_long, statement_long, body_long}, Rows.{Layout, IsAt, InstrsAt, one_code, two_code, test_code, function_code, access_of, address_code, ExpressionAt, ArgumentAt, ArgumentsAt, StatementAt, BodyAt, short_code, second_code}}
 
 pub instr_order : (code : List ℕ) (p : ℕ) (i : Instr) (q : ℕ) → IsAt code p i q → (p < q) × (q ≤ length code)
 instr_order code p i q h =
@@ -62,6 +62,7 @@ expression_stands l code (WithSpan s k a b) p q h =
 expression_stands l code (Invoke x n k given) p q h =
     let last = instr_order code h.end (Rst 1) q h.restore in
     (omega (arith, expression_long l code (Invoke x n k given) p q h), last.1)
+expression_stands l code (High n x) p q h = instr_order code p _ q h.load
 
 -- the place where an expression begins lies within the code
 pub expression_within : (l : Layout) (code : List ℕ) (e : Expression) (p q : ℕ) → ExpressionAt l code e p q → p < length code
@@ -80,18 +81,18 @@ instrs_within code [] p q some h = absurd (omega (arith, some))
 instrs_within code (i ∷ is) p q some h = instr_within code p i h.0 h.1
 
 -- and that where an argument begins, and where arguments do, where what follows them does
-pub argument_within : (l : Layout) (code : List ℕ) (n : ℕ) (a : Argument) (p q : ℕ) → ArgumentAt l code n a p q → q < length code → p < length code
-argument_within l code n (ByValue k e) p q h inside = expression_within l code e p h.middle h.value.value
-argument_within l code n (OfPlace d) p q h inside = omega (arith, place_long l code d p h.found h.here, instrs_long code (address_code (access_of l d)) h.found q h.address, inside)
-argument_within l code n (OfAll d) p q h inside = omega (arith, place_long l code d p h.found h.here, instrs_long code (address_code (access_of l d)) h.found q h.address, inside)
-argument_within l code n (OfArray d high) p q h inside =
-    let s = instr_order code h.start (Liw high) q h.by in
-    omega (arith, place_long l code d p h.found h.here, instrs_long code (address_code (access_of l d)) h.found h.start h.address, s.0, s.1)
-argument_within l code n (OfText cs) p q h inside = instr_within code p (Lag h.offset) h.start h.address
+pub argument_within : (l : Layout) (code : List ℕ) (calls : Bool) (n : ℕ) (a : Argument) (p q : ℕ) → ArgumentAt l code calls n a p q → q < length code → p < length code
+argument_within l code calls n (ByValue k e) p q h inside = expression_within l code e p h.middle h.value.value
+argument_within l code calls n (OfPlace d) p q h inside = omega (arith, place_long l code d p h.found h.here, instrs_long code (address_code (access_of l d)) h.found q h.address, inside)
+argument_within l code calls n (OfAll d) p q h inside = omega (arith, place_long l code d p h.found h.here, instrs_long code (address_code (access_of l d)) h.found q h.address, inside)
+argument_within l code calls n (OfArray copied d high) p q h inside =
+    omega (arith, place_long l code d p h.found h.here, instrs_long code (address_code (access_of l d)) h.found h.start h.address, instrs_long code (second_code calls (Liw high)) h.start q h.by, inside)
+argument_within l code calls n (OfText cs) p q h inside = instr_within code p (Lag h.offset) h.start h.address
+argument_within l code calls n (OfOpened copied i x) p q h inside = instr_within code p _ h.start h.first
 
 pub arguments_within : (l : Layout) (code : List ℕ) (n : ℕ) (given : Arguments) (p q : ℕ) → ArgumentsAt l code n given p q → q < length code → p < length code
 arguments_within l code n NoMore p q h inside = omega (arith, h, inside)
-arguments_within l code n (Also a given) p q h inside = argument_within l code n a p h.middle h.here (arguments_within l code (argument_words a + n) given h.middle q h.then inside)
+arguments_within l code n (Also a given) p q h inside = argument_within l code false n a p h.middle h.here (arguments_within l code (argument_words a + n) given h.middle q h.then inside)
 
 -- so do those where a statement and statements begin
 pub statement_within : (l : Layout) (code : List ℕ) (n : ℕ) (exit : Option ℕ) (s : Statement) (p q : ℕ) → StatementAt l code n exit s p q → q < length code → p < length code

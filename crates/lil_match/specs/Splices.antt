@@ -1,6 +1,7 @@
 -- Words that come to a place of the store.
-use Rattle.std.proofs.Common.{◌≡◌, ℕ, ◌+◌, ◌-◌, ◌<◌, ◌≤◌, List, ◌++◌, length, get_or, take, drop, refl, ap, ◌∙◌, arith, length-append, length-drop, append-nil}
-use Rattle.std.proofs.lemmas.List.{get_or-take, get_or_append_left, get_or-append_right, get_or-drop, get_or-replicate, length-replicate, length-take-le}
+use Rattle.std.proofs.Common.{◌≡◌, ℕ, ◌+◌, ◌-◌, ◌<◌, ◌≤◌, ◌⊎◌, inl, inr, List, [], ◌∷◌, ◌++◌, length, get_or, take, drop, refl, sym, ap, ◌∙◌, arith, length-append, length-drop, append-nil}
+use Rattle.std.proofs.lemmas.List.{get_or-take, get_or_append_left, get_or-append_right, get_or-drop, get_or-replicate, length-replicate, length-take-le, ext_get_or}
+use Rattle.std.proofs.lemmas.Bool.{cases_lt}
 use Rattle.lil_frames.specs.Words.{spliced, zeros, moved}
 
 pub spliced_length : (store : List ℕ) (a : ℕ) (ws : List ℕ) → a + length ws ≤ length store → length (spliced store a ws) ≡ length store
@@ -44,3 +45,34 @@ zeros_word n i less = get_or-replicate n i 0 0 less
 pub block_alone : (store : List ℕ) (a w : ℕ) → moved store a w 0 ≡ take w (drop a store)
 unfolding zeros
 block_alone store a w = append-nil (take w (drop a store))
+
+-- two words, one behind the other
+pub spliced_twice : (store : List ℕ) (a u v : ℕ) → a + 2 ≤ length store → spliced (spliced store a (u ∷ [])) (a + 1) (v ∷ []) ≡ spliced store a (u ∷ v ∷ [])
+spliced_twice store a u v room = ext_get_or 0 (spliced (spliced store a (u ∷ [])) (a + 1) (v ∷ [])) (spliced store a (u ∷ v ∷ [])) (second_long ∙ first_long ∙ sym (spliced_length store a (u ∷ v ∷ []) room)) (λ i less. by i (cases_lt i a) (cases_lt i (a + 1)) (cases_lt i (a + 2)))
+  where
+    first_long : length (spliced store a (u ∷ [])) ≡ length store
+    first_long = spliced_length store a (u ∷ []) (omega (arith, room))
+
+    second_room : (a + 1) + 1 ≤ length (spliced store a (u ∷ []))
+    second_room = omega (arith, room, first_long)
+
+    second_long : length (spliced (spliced store a (u ∷ [])) (a + 1) (v ∷ [])) ≡ length (spliced store a (u ∷ []))
+    second_long = spliced_length (spliced store a (u ∷ [])) (a + 1) (v ∷ []) second_room
+
+    by : (i : ℕ) → (i < a) ⊎ (a ≤ i) → (i < a + 1) ⊎ (a + 1 ≤ i) → (i < a + 2) ⊎ (a + 2 ≤ i) → get_or (spliced (spliced store a (u ∷ [])) (a + 1) (v ∷ [])) i 0 ≡ get_or (spliced store a (u ∷ v ∷ [])) i 0
+    by i (inl low) q r =
+        spliced_before (spliced store a (u ∷ [])) (a + 1) (v ∷ []) i second_room (omega (arith, low)) ∙ spliced_before store a (u ∷ []) i (omega (arith, room)) low ∙ sym (spliced_before store a (u ∷ v ∷ []) i room low)
+    by i (inr from) (inl low) r =
+        let e : i ≡ a + 0 = omega (arith, from, low) in
+        spliced_before (spliced store a (u ∷ [])) (a + 1) (v ∷ []) i second_room low
+        ∙ ap (λ (j : ℕ). get_or (spliced store a (u ∷ [])) j 0) e ∙ spliced_there store a (u ∷ []) 0 (omega (arith, room)) (omega arith)
+        ∙ sym (ap (λ (j : ℕ). get_or (spliced store a (u ∷ v ∷ [])) j 0) e ∙ spliced_there store a (u ∷ v ∷ []) 0 room (omega arith))
+    by i (inr from) (inr next) (inl low) =
+        let e : i ≡ (a + 1) + 0 = omega (arith, next, low) in
+        let f : i ≡ a + 1 = omega (arith, next, low) in
+        ap (λ (j : ℕ). get_or (spliced (spliced store a (u ∷ [])) (a + 1) (v ∷ [])) j 0) e ∙ spliced_there (spliced store a (u ∷ [])) (a + 1) (v ∷ []) 0 second_room (omega arith)
+        ∙ sym (ap (λ (j : ℕ). get_or (spliced store a (u ∷ v ∷ [])) j 0) f ∙ spliced_there store a (u ∷ v ∷ []) 1 room (omega arith))
+    by i (inr from) (inr next) (inr high) =
+        spliced_after (spliced store a (u ∷ [])) (a + 1) (v ∷ []) i second_room (omega (arith, high))
+        ∙ spliced_after store a (u ∷ []) i (omega (arith, room)) (omega (arith, high))
+        ∙ sym (spliced_after store a (u ∷ v ∷ []) i room high)

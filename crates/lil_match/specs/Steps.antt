@@ -4,8 +4,8 @@ use Rattle.std.proofs.Common.{◌≡◌, ℕ, zero, suc, ◌+◌, ◌<◌, Optio
 use Rattle.std.specs.Prelude.{slice_get}
 use Rattle.std.proofs.lemmas.{Option.same_Some, Bool.lt-ltb}
 use Rattle.lil_base.specs.declared.fault.{TrapKind.TrapKind, LimitKind.LimitKind}
-use Rattle.lil_resolved.specs.{Kinds.{Shape, is_there}, Resolved.{Designator, Argument, Arguments, NoMore, Also, Expression, kind_of}, Sizes.{depth, place_depth}}
-use Rattle.lil_meaning.specs.{Items.{Global, Place, Datum, loaded_at, Called, Pass, PassPlace, PassAll, Passing, Turns, Holding, End, Item, Perform, Activation, Going, Source, Cells, Root, Local, Object, Hole, Evaluate, PlaceOf, Fill}, World.{all_closed, World}, Steps.{current, held_in, owner_of, procedure_of, procedure_name, trap_at, trapped, next}}
+use Rattle.lil_resolved.specs.{Kinds.{Shape, is_there}, Resolved.{Designator, Arguments, Expression, kind_of}, Sizes.{depth, place_depth}}
+use Rattle.lil_meaning.specs.{Items.{Global, Place, Datum, loaded_at, Called, Pass, PassPlace, PassAll, PassArray, Passing, Turns, Holding, End, Item, Perform, Activation, Going, Source, Cells, Root, Local, Object, Hole, Evaluate, PlaceOf, Fill}, World.{all_closed, World}, Steps.{current, held_in, owner_of, procedure_of, procedure_name, trap_at, trapped, next}}
 use Rattle.lil_mcode.specs.{declared.machine.Event.{Event, TheVariants.{Trap, Went, Limit}}, Table.{Kept, State, Module, module_at, mstep, act, fetched, performed, going, push_row}}
 use Rattle.lil_table.specs.Rows.{holding, loop_place, IsAt, PlaceAt, ExpressionAt}
 use Rattle.lil_match.specs.{Goes.{IsNamed, Shared, IsTrapped, IsProgram, GoesOn, Lands, IsStill, beyond, Touches, Succeeds, Short, IsFull, Grows, Goes}, Running.{running, react, Run, mrun, advanced}, Homes.{address, shape_there, Home, extends_self, lives, Mem}, Kept.{sees_laid, sees_pushed, loops_behind}}
@@ -23,18 +23,21 @@ closed ctx (Perform (Holding place) ∷ k) t p stack c a r = closed r.there.befo
 closed ctx (Perform (End n) ∷ k) t p stack c a r = r.there.activation
 closed ctx (Fill (Pass (Called q levels) kind done left) ∷ k) t p stack c a r =
     let w = r.there.pending in
-    closed w.before k _ w.after _ r.later w.outer w.then ∙ sym (ap (λ (c : Setting). c.stack.frame.activation) w.is)
+    closed w.before k _ w.after _ w.later w.outer w.then ∙ sym (ap (λ (c : Setting). c.stack.frame.activation) w.is)
 closed ctx (Fill (PassPlace (Called q levels) done left) ∷ k) t p stack c a r =
     let w = r.there.pending in
-    closed w.before k _ w.after _ r.later w.outer w.then ∙ sym (ap (λ (c : Setting). c.stack.frame.activation) w.is)
+    closed w.before k _ w.after _ w.later w.outer w.then ∙ sym (ap (λ (c : Setting). c.stack.frame.activation) w.is)
 closed ctx (Fill (PassAll (Called q levels) done left) ∷ k) t p stack c a r =
     let w = r.there.pending in
-    closed w.before k _ w.after _ r.later w.outer w.then ∙ sym (ap (λ (c : Setting). c.stack.frame.activation) w.is)
+    closed w.before k _ w.after _ w.later w.outer w.then ∙ sym (ap (λ (c : Setting). c.stack.frame.activation) w.is)
+closed ctx (Fill (PassArray (Called q levels) high done left) ∷ k) t p stack c a r =
+    let w = r.there.pending in
+    closed w.before k _ w.after _ w.later w.outer w.then ∙ sym (ap (λ (c : Setting). c.stack.frame.activation) w.is)
 closed ctx (i ∷ k) t p stack c a r = closed ctx k _ _ _ _ _ r.there.then
 
 -- so do those of a call's arguments
 pub pending_closed : (ctx : Setting) (k : List Item) (q levels : ℕ) (done : List Datum) (next : List Shape) (left : Arguments) (p c : ℕ) (a : Around) → Pending ctx q levels done next left (RowsOf k) p c a → current k ≡ ctx.stack.frame.activation
-pending_closed ctx k q levels done next left p c a w = closed w.before k _ w.after _ c w.outer w.then ∙ sym (ap (λ (c : Setting). c.stack.frame.activation) w.is)
+pending_closed ctx k q levels done next left p c a w = closed w.before k _ w.after _ w.later w.outer w.then ∙ sym (ap (λ (c : Setting). c.stack.frame.activation) w.is)
 
 -- the place that a WITH around holds, whose address stands in a word of the frame
 pub record Held (ctx : Setting) (place : Place) (shape : Shape) (word : ℕ) : Type 0 where
@@ -81,7 +84,7 @@ held_pending : (ctx : Setting) (k : List Item) (q levels : ℕ) (done : List Dat
     → ((y : Setting) (t : Mode) (p : ℕ) (stack : List ℕ) (c : ℕ) (a : Around) → Rows y k t p stack c a → slice_get y.stack.frame.layout.held w ≡ Some word → slice_get y.stack.frame.layout.scope.held w ≡ Some shape → HeldHere y (held_in k w) shape word)
     → HeldHere ctx (held_in k w) shape word
 held_pending ctx k q levels done next left p c a r w word shape at typed rest =
-    let h = rest r.before _ r.after _ c r.outer r.then (sym (ap (λ (y : Setting). slice_get y.stack.frame.layout.held w) r.is) ∙ at) (sym (ap (λ (y : Setting). slice_get y.stack.frame.layout.scope.held w) r.is) ∙ typed) in
+    let h = rest r.before _ r.after _ r.later r.outer r.then (sym (ap (λ (y : Setting). slice_get y.stack.frame.layout.held w) r.is) ∙ at) (sym (ap (λ (y : Setting). slice_get y.stack.frame.layout.scope.held w) r.is) ∙ typed) in
     record { place = h.place; found = h.found; held = held_pushed ctx r.before h.place shape (saved_words r.resumed + (4 + all_words r.shapes)) word r.is h.held }
 
 no_word : (word : ℕ) → None ≡ Some word → ⊥
@@ -134,6 +137,8 @@ held_here ctx (Fill (Pass (Called q levels) kind done left) ∷ k) t p stack c a
 held_here ctx (Fill (PassPlace (Called q levels) done left) ∷ k) t p stack c a r w word shape at typed =
     held_pending ctx k q levels done _ left _ _ a r.there.pending w word shape at typed (λ y t p stack c a rows at typed. held_here y k t p stack c a rows w word shape at typed)
 held_here ctx (Fill (PassAll (Called q levels) done left) ∷ k) t p stack c a r w word shape at typed =
+    held_pending ctx k q levels done _ left _ _ a r.there.pending w word shape at typed (λ y t p stack c a rows at typed. held_here y k t p stack c a rows w word shape at typed)
+held_here ctx (Fill (PassArray (Called q levels) high done left) ∷ k) t p stack c a r w word shape at typed =
     held_pending ctx k q levels done _ left _ _ a r.there.pending w word shape at typed (λ y t p stack c a rows at typed. held_here y k t p stack c a rows w word shape at typed)
 held_here ctx (i ∷ k) t p stack c a r w word shape at typed = held_here ctx k _ _ _ _ _ r.there.then w word shape at typed
 

@@ -5,11 +5,11 @@ use Rattle.lil_match.specs.Waits.{parameters_in}
 use Rattle.std.proofs.Common.{◌≡◌, ℕ, zero, suc, ◌+◌, ◌<◌, ◌≤◌, inl, inr, Bool, true, ◌||◌, Option, Some, None, List, [], ◌∷◌, ◌++◌, length, map, drop, refl, sym, ap, ◌∙◌, subst, arith, eq-eqb}
 use Rattle.std.specs.{Prelude.{slice_get, option_and_then}, List.list_any}
 use Rattle.std.proofs.lemmas.Option.{none-some, slice_get_within}
-use Rattle.lil_resolved.specs.{Kinds.{Shape, Address, Outline, is_there, procedure_by, locals_of, locals_at, offsets_from}, Resolved.{Named, OfModule, OfLevel, Resolved, variable_at, outline_of}}
-use Rattle.lil_meaning.specs.{Items.{Root, Global, Local, Slot, Here, At, Place, Activation, Source, loaded_at}, Steps.{current, owner_of, procedures_of, slots_of, slot_place, local_place, level_out, variable_place}}
+use Rattle.lil_resolved.specs.{Kinds.{Shape, Row, Address, Opened, Outline, is_there, procedure_by, locals_of, locals_at, offsets_from}, Resolved.{Named, OfModule, OfLevel, Resolved, variable_at, outline_of}}
+use Rattle.lil_meaning.specs.{Items.{Root, Global, Local, Slot, Here, At, Along, Place, Activation, Source, loaded_at}, Steps.{current, owner_of, procedures_of, slots_of, slot_place, local_place, slot_array, local_array, array_of, level_out, variable_place}}
 use Rattle.lil_mcode.specs.Table.{Module, State}
 use Rattle.lil_table.specs.Rows.{access_at, offset_at, framed}
-use Rattle.lil_match.specs.{Homes.{Owner, Own, Home, address, shape_there}, Waits.{Frame, frames_of, locals_in, own_words, is_of, sees, Setting, HasPlace}, Known.{or_later, sees_more}, Goes.{Stands, Among, IsKnown, EachKnown, HasLocals, EachLocal, HasHanded, EachHanded, Shared}, Climbs.{Climbs, climbs, first_own}, Kept.{first_words, offset_low}}
+use Rattle.lil_match.specs.{Homes.{Owner, Own, Home, address, shape_there}, Waits.{Frame, frames_of, locals_in, own_words, is_of, sees, Setting, HasPlace}, Known.{or_later, sees_more}, Goes.{Stands, Among, IsKnown, EachKnown, HasLocals, EachLocal, HasHanded, HasOpened, EachHanded, Shared}, Climbs.{Climbs, climbs, first_own}, Kept.{first_words, offset_low}}
 
 -- ---- frames
 known_among : (library : List Resolved) (loaded : List ℕ) (table : List Module) (acts : List Activation) (h : Home) (fs : List Frame) (g : Frame) → EachKnown library loaded table acts h fs → Among g fs → IsKnown library loaded table acts h g
@@ -35,14 +35,16 @@ seen_among (f ∷ fs) bs g (inr m) = or_later (is_of g.activation f) (list_any (
 record HandedAmong (acts : List Activation) (h : Home) (fs bs : List Frame) (g : Frame) : Type 0 where
   under : List Frame
   handed : HasHanded acts h g under
+  opened : HasOpened acts h g under
   more : (r : Root) → sees under r ≡ true → sees (fs ++ bs) r ≡ true
+  around : (r : Root) → sees (g ∷ under) r ≡ true → sees (fs ++ bs) r ≡ true
 
 handed_among : (acts : List Activation) (h : Home) (fs bs : List Frame) (g : Frame) → EachHanded acts h fs bs → Among g fs → HandedAmong acts h fs bs g
 handed_among acts h [] bs g e m = absurd m
-handed_among acts h (f ∷ fs) bs g e (inl same) = record { under = fs ++ bs; handed = subst (λ (y : Frame). HasHanded acts h y (fs ++ bs)) (sym same) e.0; more = λ r s. sees_more f (fs ++ bs) r s }
+handed_among acts h (f ∷ fs) bs g e (inl same) = record { under = fs ++ bs; handed = subst (λ (y : Frame). HasHanded acts h y (fs ++ bs)) (sym same) e.0; opened = subst (λ (y : Frame). HasOpened acts h y (fs ++ bs)) (sym same) e.1; more = λ r s. sees_more f (fs ++ bs) r s; around = λ r s. subst (λ (y : Frame). sees (y ∷ (fs ++ bs)) r ≡ true) same s }
 handed_among acts h (f ∷ fs) bs g e (inr m) =
-    let one = handed_among acts h fs bs g e.1 m in
-    record { under = one.under; handed = one.handed; more = λ r s. sees_more f (fs ++ bs) r (one.more r s) }
+    let one = handed_among acts h fs bs g e.2 m in
+    record { under = one.under; handed = one.handed; opened = one.opened; more = λ r s. sees_more f (fs ++ bs) r (one.more r s); around = λ r s. sees_more f (fs ++ bs) r (one.around r s) }
 
 -- the variables of a frame lie below the topmost word
 frame_low : (owner : ℕ → Owner) (base top : ℕ) (f : Frame) (gs : List Frame) → Stands owner base top f gs → (g : Frame) → Among g (f ∷ gs) → g.at + (4 + own_words g) ≤ top
@@ -183,5 +185,58 @@ module _ (ctx : Setting) where
         word = v.word;
         seen = one.more v.place.root v.seen;
         living = v.living;
+        low = omega (arith, low.1, frame_low h.owner st.base m.top f st.callers shared.standing.stands up.to up.among, shared.standing.low, shared.standing.high);
+      }
+
+  -- an open array that is a parameter is a place with the number of its last element, and words of its procedure's frame have both
+  pub record OpenedHere (s : Source) (n x offset : ℕ) (t : Shape) : Type 0 where
+    pub place : Place
+    pub high : ℕ
+    pub found : array_of s n x ≡ Some (place, high)
+    pub first : ℕ
+    pub shown : slice_get ctx.stack.frame.display n ≡ Some first
+    pub own : h.owner (first + offset) ≡ Own
+    pub own_high : h.owner (first + (offset + 1)) ≡ Own
+    pub word : h.shadow (first + offset) ≡ address h place
+    pub word_high : h.shadow (first + (offset + 1)) ≡ high
+    pub seen : sees (frames_of ctx.stack) place.root ≡ true
+    pub living : shape_there h place ≡ Row (suc high) t
+    pub last : high ≤ 65535
+    pub low : first + (offset + 1) ≤ 65535
+
+  array_out : (s : Source) (m : State) → Shared ctx s m → current s.items ≡ ctx.stack.frame.activation → (n x : ℕ) (up : Climbs ctx.activations m.store ctx.stack.frame ctx.stack.callers n) (its : Activation) → slice_get ctx.activations up.to.activation ≡ Some its
+      → (slot : Slot) → slice_get its.slots x ≡ Some slot → array_of s n x ≡ slot_array (Some slot)
+  array_out s m shared close n x up its runs slot is =
+      ap (λ (a : ℕ). local_array s.activations (level_out s.activations a n) x) close
+      ∙ ap (λ (acts : List Activation). local_array acts (level_out acts ctx.stack.frame.activation n) x) shared.activations_are
+      ∙ ap (λ (a : Option ℕ). local_array ctx.activations a x) up.level
+      ∙ ap (λ (o : Option Activation). slot_array (slice_get (slots_of o) x)) runs
+      ∙ ap slot_array is
+
+  pub opened_here : (s : Source) (m : State) → Shared ctx s m → current s.items ≡ ctx.stack.frame.activation → (n x offset : ℕ) (copied : Bool) (t : Shape) → offset_at ctx.stack.frame.layout (OfLevel n x) ≡ Some offset
+      → slice_get (parameters_at ctx.stack.frame.layout.scope n) x ≡ Some (Opened copied t) → is_there t ≡ true → OpenedHere s n x offset t
+  opened_here s m shared close n x offset copied t at typed there =
+      let f = ctx.stack.frame in
+      let up = out_of s m shared n (level_low f.layout.scope.procedures f.layout.scope.chain n x (Opened copied t) (parameter_variable f.layout.scope n x (Opened copied t) typed)) in
+      let outline = outline_out s m shared n up in
+      let same : locals_in up.to ≡ locals_at f.layout.scope n = ap locals_of outline in
+      let one = handed_among ctx.activations h (f ∷ st.callers) st.bodies up.to shared.standing.handed up.among in
+      let here = ap (λ (ts : List Shape). slice_get (offsets_from 4 ts) x) same ∙ at in
+      let typed_here : slice_get (parameters_in up.to) x ≡ Some (Opened copied t) = ap (λ (o : Option Outline). slice_get (parameters_of o) x) outline ∙ typed in
+      let v = one.opened x offset copied t here typed_here there in
+      let low = offset_low 4 (locals_in up.to) x offset (Opened copied t) here (parameter_variable up.to.layout.scope 0 x (Opened copied t) typed_here) in
+      record {
+        place = v.place;
+        high = v.high;
+        found = array_out s m shared close n x up v.its v.runs (Along v.place v.high) v.slot;
+        first = up.to.at;
+        shown = up.shown;
+        own = v.own;
+        own_high = v.own_high;
+        word = v.word;
+        word_high = v.word_high;
+        seen = one.around v.place.root v.seen;
+        living = v.living;
+        last = v.low;
         low = omega (arith, low.1, frame_low h.owner st.base m.top f st.callers shared.standing.stands up.to up.among, shared.standing.low, shared.standing.high);
       }

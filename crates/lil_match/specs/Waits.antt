@@ -5,19 +5,19 @@ use Rattle.std.specs.Prelude.{ℤ, ◌+ℤ◌, Option, ◌==◌, slice_get}
 use Rattle.std.specs.List.{list_any}
 use Rattle.lil_base.specs.{Words.{between, word_of}, declared.operator.{TwoOp.TwoOp}, Requests.request_number}
 use Rattle.lil_resolved.specs.Kinds.{result_of, result_here, Workspaces, Kind, OfTruth, OfCharacter, OfSet, OfPointer, base_of, is_plain, takes_value, stores_value, least, greatest, numbers, Scalar, within, scalar_word, Shape, Word, Row, Address, Opened, words, is_there, part_at, offset, element_of, all_words, locals_at, Scope, MayCall, parameters_of, parameters_at, procedure_by}
-use Rattle.lil_resolved.specs.{Resolved.{Named, Designator, Variable, Handed, Held, Field, Element, Follow, Expression, Constant, Taken, One, Two, Short, Apply, With, WithSpan, Invoke, Argument, Arguments, NoMore, Also, ByValue, OfPlace, OfAll, OfArray, OfText, Statement, Assign, Copy, Text, Change, Member, New, Allocate, Request, Inside, If, Case, While, Repeat, Loop, Exit, Halt, Return, Answer, Call, For, Statements, Empty, Then, Resolved, kind_of, is_relation, result_kind, function_kind, shape_of}, Sizes.{place_depth, depth}}
-use Rattle.lil_resolved.specs.Sound.{request_parameters, parameter_of, parameters_given, AreServed}
-use Rattle.lil_meaning.specs.Items.{Root, Local, Place, Under, alone, Datum, Scalars, Places, Wholes, Opens, Texts, Hole, Get, IndexBy, IndexAt, Pointed, SetTo, StoreAt, CopyTo, CopyFrom, TextTo, NewAt, AllocateBy, AllocateAt, ChangeBy, ChangeAt, OneOf, LeftOf, RightOf, ShortOf, ApplyTo, WithMember, MemberOf, WithMembers, MembersFrom, MembersTo, MemberBy, MemberAt, Requested, Called, Pass, PassPlace, PassAll, PassArray, Returning, Choose, Turn, Again, Pick, Hold, StartOf, LimitOf, Task, Do, Passing, Until, Looping, Turns, Holding, End, Item, Value, Evaluate, PlaceOf, Fill, Perform, Activation, Parked, loaded_at, Part as PartOf}
+use Rattle.lil_resolved.specs.{Resolved.{Named, Designator, Variable, Handed, Along, Held, Field, Element, Follow, Expression, Constant, Taken, One, Two, Short, Apply, With, WithSpan, Invoke, High, Argument, Arguments, NoMore, Also, ByValue, OfPlace, OfAll, OfArray, OfText, OfOpened, Statement, Assign, Copy, Text, Change, Member, New, Allocate, Request, Inside, If, Case, While, Repeat, Loop, Exit, Halt, Return, Answer, Call, For, Statements, Empty, Then, Resolved, kind_of, is_relation, result_kind, function_kind, shape_of}, Sizes.{place_depth, depth}}
+use Rattle.lil_resolved.specs.Sound.{request_parameters, parameters_given, AreServed}
+use Rattle.lil_meaning.specs.Items.{Root, Local, Place, Under, alone, Datum, Scalars, Places, Wholes, Opens, Texts, Hole, Get, IndexBy, IndexAt, AlongAt, Pointed, SetTo, StoreAt, CopyTo, CopyFrom, TextTo, NewAt, AllocateBy, AllocateAt, ChangeBy, ChangeAt, OneOf, LeftOf, RightOf, ShortOf, ApplyTo, WithMember, MemberOf, WithMembers, MembersFrom, MembersTo, MemberBy, MemberAt, Requested, Called, Pass, PassPlace, PassAll, PassArray, Returning, Choose, Turn, Again, Pick, Hold, StartOf, LimitOf, Task, Do, Passing, Until, Looping, Turns, Holding, End, Item, Value, Evaluate, PlaceOf, Fill, Perform, Activation, Parked, loaded_at, Part as PartOf}
 use Rattle.lil_meaning.specs.{Steps.{turns}, Need.{frame_of as words_of}}
 use Rattle.lil_asm.specs.{declared.instr.Instr.TheVariants.{Liw, Psh, Psm, Cll, Ent, Rtn, Rst, Jmp, Svc}, Requests.request_words}
 use Rattle.lil_mcode.specs.Table.{Module, Kept, body_entry}
 use Rattle.lil_base.specs.declared.request.Request as request
-use Rattle.lil_table.specs.Rows.{Layout, leave_code, holding, framed, exactly, HasText, text_words, arguments_words, IsAt, InstrsAt, test_code, Access, InData, InFrame, OnTop, access_of, address_code, readied, PlaceAt, ExpressionAt, ArgumentsAt, GivenAt, given_words, StatementAt, BodyAt, TurnsRow, RoundRow, loop_place, Behind as Past}
+use Rattle.lil_table.specs.Rows.{Layout, leave_code, copies_code, holding, framed, exactly, HasText, text_words, arguments_words, IsAt, InstrsAt, second_code, test_code, Access, InData, InFrame, OnTop, access_of, address_code, readied, PlaceAt, ExpressionAt, ArgumentsAt, GivenAt, given_words, StatementAt, BodyAt, TurnsRow, RoundRow, loop_place, Behind as Past}
 use Rattle.lil_match.specs.Homes.{word_for, Refers, IsWord, Home, address, shape_there}
 
 -- whether a parameter and a datum are open arrays
 abbrev pub is_open : Shape → Bool
-is_open (Opened t) = true
+is_open (Opened copied t) = true
 is_open _ = false
 
 abbrev pub is_array : Datum → Bool
@@ -25,10 +25,10 @@ is_array (Opens p high) = true
 is_array (Texts cs) = true
 is_array _ = false
 
--- what a request may take: a value that is no reference, or an open array
+-- what a request may take: a value that is no reference, or an open array of characters
 abbrev pub IsTaken : Shape → Type 0
 IsTaken (Word k) = is_plain k ≡ true
-IsTaken (Opened t) = Unit {0}
+IsTaken (Opened copied t) = t ≡ Word OfCharacter
 IsTaken _ = ⊥
 
 abbrev pub AreTaken : List Shape → Type 0
@@ -107,8 +107,9 @@ pub record Waits (w : Part) (rest : Reach) (c : ℕ) (a : Around) : Type 0 where
   pub then : rest (w.onto part).mode (w.onto part).place (w.onto part).stack c a
 
 -- A procedure or a body that runs or is to run: its activation, its module's number, its own number in there, its module's entry in the
--- table, where its code begins and what is behind it, the code by itself, its layout, the first word of its frame, how many words its pending
--- calls have put above that, the first words of the frames from it on outwards by its static links, and the place where its return goes on.
+-- table, where its code begins and what is behind it, the code by itself, its layout, the first word of its frame, how many words its copies of
+-- open arrays, and above them its pending calls, have put above that, how many of these the copies have, the first words of the frames from it
+-- on outwards by its static links, and the place where its return goes on.
 pub record Frame : Type 0 where
   pub activation : ℕ
   pub number : ℕ
@@ -120,6 +121,7 @@ pub record Frame : Type 0 where
   pub layout : Layout
   pub at : ℕ
   pub pushed : ℕ
+  pub copied : ℕ
   pub display : List ℕ
   pub back : ℕ
 
@@ -133,7 +135,7 @@ parameters_in f = parameters_at f.layout.scope 0
 abbrev pub own_words : Frame → ℕ
 own_words f = all_words (locals_in f)
 
--- the first word above a frame and above what pending calls have put there
+-- the first word above a frame and above what copies and pending calls have put there
 abbrev pub top_of : Frame → ℕ
 top_of f = f.at + (f.layout.frame + f.pushed)
 
@@ -502,6 +504,24 @@ module _ (ctx : Setting) where
     pub at : p ≡ did.here.middle
     pub has : HasPlace OnTop place (Row (numbers k) (element_of (shape_of l.scope of))) stack below
 
+  -- an array, as the address and the number of the last element that an open array is
+  pub record ArrayOn (t : Shape) (place : Place) (high : ℕ) (stack below : List ℕ) : Type 0 where
+    pub has : HasPlace OnTop place (Row (suc high) t) (address h place ∷ below) below
+    pub low : high ≤ 65535
+    pub is : stack ≡ high ∷ address h place ∷ below
+
+  -- the index of an element of an open array is there
+  pub record AlongAtPart (j : Kind) (place : Place) (high p : ℕ) (stack : List ℕ) : Type 0 where
+    pub n : ℕ
+    pub x : ℕ
+    pub index : Expression
+    pub same : j ≡ kind_of index
+    pub from : ℕ
+    pub below : List ℕ
+    pub did : PlacePart active (Along n x index) from below
+    pub at : p ≡ did.here.middle
+    pub on : ArrayOn did.here.opened.element place high stack below
+
   -- the value that is stored is there
   pub record StorePart (j : Kind) (place : Place) (k : Kind) (p : ℕ) (stack : List ℕ) (a : Around) : Type 0 where
     pub of : Designator
@@ -542,12 +562,7 @@ module _ (ctx : Setting) where
     pub has : HasPlace (readied (access_of l of)) place (Word k) once []
     pub twice : stack ≡ doubled (readied (access_of l of)) once
 
-  -- an array, as the address and the number of the last element that an open array is
-  pub record ArrayOn (place : Place) (high : ℕ) (stack below : List ℕ) : Type 0 where
-    pub has : HasPlace OnTop place (Row (suc high) (Word OfCharacter)) (address h place ∷ below) below
-    pub is : stack ≡ high ∷ address h place ∷ below
-
-  -- a string as the same
+  -- a string, as the address and the number of the last element that an open array is
   pub record TextOn (cs : List ℕ) (stack below : List ℕ) : Type 0 where
     pub offset : ℕ
     pub text : HasText l cs offset
@@ -556,7 +571,7 @@ module _ (ctx : Setting) where
   -- the words of a datum of a request, above others
   abbrev pub DatumOn : Datum → List ℕ → List ℕ → Type 0
   DatumOn (Scalars v) stack below = stack ≡ scalar_word v ∷ below
-  DatumOn (Opens place high) stack below = ArrayOn place high stack below
+  DatumOn (Opens place high) stack below = ArrayOn (Word OfCharacter) place high stack below
   DatumOn (Texts cs) stack below = TextOn cs stack below
   DatumOn (Places place) stack below = ⊥
   DatumOn (Wholes u) stack below = ⊥
@@ -577,6 +592,7 @@ module _ (ctx : Setting) where
   -- its place is there, an array
   pub record PassArrayPart (d : Designator) (r : request.Request) (high : ℕ) (done : List Datum) (left : Arguments) (p : ℕ) (stack : List ℕ) : Type 0 where
     pub rows : shape_of l.scope d ≡ Row (suc high) (Word OfCharacter)
+    pub low : high ≤ 65535
     pub room : length stack + 2 ≤ 16
     pub on : DataOn done stack []
     pub start : ℕ
@@ -620,6 +636,7 @@ module _ (ctx : Setting) where
   needs (ValueOf j) (Fill (MembersFrom u k f)) p stack a = part (FromPart j u k f p stack) (λ r. on (ValueOf OfSet) r.row.did.end r.below)
   needs (ValueOf j) (Fill (MembersTo u k v)) p stack a = part (ToPart j u k v p stack) (λ r. on (ValueOf OfSet) r.row.did.end r.below)
   needs (ValueOf j) (Fill (IndexAt place k)) p stack a = part (IndexAtPart j place k p stack) (λ r. on (AtPlace (Element r.of k r.index)) r.did.end r.below)
+  needs (ValueOf j) (Fill (AlongAt place high)) p stack a = part (AlongAtPart j place high p stack) (λ r. on (AtPlace (Along r.n r.x r.index)) r.did.end r.below)
   needs (ValueOf j) (Fill (ChangeAt down place k)) p stack a = part (ChangePart j down place k p stack a) (λ r. on Quiet r.amid.end [])
   needs (ValueOf j) (Fill (StoreAt place k)) p stack a = part (StorePart j place k p stack a) (λ r. on Quiet r.amid.end [])
   needs (ValueOf j) (Fill (OneOf o k)) p stack a = part (OperandPart active (One o k) (λ e p q r. r.middle) j p stack) (λ r. on (ValueOf k) r.did.end stack)
@@ -702,7 +719,8 @@ module _ (ctx : Setting) where
     pub then : rest before Quiet p [] c outer
 
   -- ---- calls whose arguments are at hand
-  -- What was given for a parameter, as words of the frame to come: all scalars of a shape with cells, or the address of a place.
+  -- What was given for a parameter, as words of the frame to come: all scalars of a shape with cells, the address of a place, an open array or
+  -- a string.
   pub record GivenAll (t : Shape) (u : Under) (at : ℕ) : Type 0 where
     pub there : is_there t ≡ true
     pub cells : (q : List ℕ) (k : Kind) → part_at t q ≡ Word k → IsWord h k (u q) (h.shadow (at + offset t q))
@@ -715,12 +733,32 @@ module _ (ctx : Setting) where
     pub there : is_there to ≡ true
     pub word : h.shadow at ≡ address h place
 
+  -- an open array: the address of its place, and the number of its last element
+  pub record GivenArray (t : Shape) (place : Place) (high at : ℕ) : Type 0 where
+    pub copied : Bool
+    pub to : Shape
+    pub is : t ≡ Opened copied to
+    pub seen : sees (frames_of ctx.stack) place.root ≡ true
+    pub living : shape_there h place ≡ Row (suc high) to
+    pub there : is_there to ≡ true
+    pub low : high ≤ 65535
+    pub word : h.shadow at ≡ address h place
+    pub word_high : h.shadow (at + 1) ≡ high
+
+  -- a string for one that is copied
+  pub record GivenText (t : Shape) (cs : List ℕ) (at : ℕ) : Type 0 where
+    pub is : t ≡ Opened true (Word OfCharacter)
+    pub offset : ℕ
+    pub text : HasText l cs offset
+    pub word : h.shadow at ≡ own.base + offset
+    pub word_high : h.shadow (at + 1) ≡ text_words cs - 1
+
   abbrev pub GivenWords : Shape → Datum → ℕ → Type 0
   GivenWords t (Scalars v) at = GivenAll t (alone v) at
   GivenWords t (Wholes u) at = GivenAll t u at
   GivenWords t (Places place) at = GivenPlace t place at
-  GivenWords t (Opens place high) at = ⊥
-  GivenWords t (Texts cs) at = ⊥
+  GivenWords t (Opens place high) at = GivenArray t place high at
+  GivenWords t (Texts cs) at = GivenText t cs at
 
   -- the same of several, from a word of the store on
   abbrev pub AllGiven : List Shape → List Datum → ℕ → Type 0
@@ -738,6 +776,9 @@ module _ (ctx : Setting) where
     pub saved : AreSaved h.shadow resumed (top_of before.stack.frame)
     pub outer : Around
     pub around : a ≡ record { exit = None; taken = outer.taken }
+    -- each copy of what is done is owed
+    pub later : ℕ
+    pub count : c ≡ length (copies_code 4 shapes) + later
     pub may : MayCall l.scope x n
     pub returns : result_of (procedure_by l.scope.procedures x) ≡ result_in resumed
     pub takes : parameters_of (procedure_by l.scope.procedures x) ≡ shapes ++ (next ++ parameters_given l.scope left)
@@ -751,7 +792,7 @@ module _ (ctx : Setting) where
     pub after : ℕ
     pub restore : RestoresAt piece resumed end after
     pub within : after < length piece
-    pub then : rest before (resumed_mode resumed) after (resumed_stack resumed) c outer
+    pub then : rest before (resumed_mode resumed) after (resumed_stack resumed) later outer
 
   -- the next argument is at hand, or the call
   pub record PendingWaits (x n : ℕ) (done : List Datum) (left : Arguments) (rest : Setting → Reach) (t : Mode) (p : ℕ) (stack : List ℕ) (c : ℕ) (a : Around) : Type 0 where
@@ -793,6 +834,23 @@ module _ (ctx : Setting) where
     pub push : IsAt piece tested (Psm (words (shape_of l.scope of))) start
     pub pending : Pending x n done (shape_of l.scope of ∷ []) left rest start c a
 
+  -- the place of the next argument is to come, an array, whose address and the number of its last element go to the frame to come
+  pub record ArrayWaits (x n high : ℕ) (done : List Datum) (left : Arguments) (rest : Setting → Reach) (t : Mode) (p : ℕ) (stack : List ℕ) (c : ℕ) (a : Around) : Type 0 where
+    pub of : Designator
+    pub mode : t ≡ AtPlace of
+    pub empty : stack ≡ []
+    pub rows : shape_of l.scope of ≡ Row (suc high) (element_of (shape_of l.scope of))
+    pub there : is_there (element_of (shape_of l.scope of)) ≡ true
+    pub low : high ≤ 65535
+    pub tested : ℕ
+    pub address : InstrsAt piece (address_code (access_of l of)) p tested
+    pub first : ℕ
+    pub by : InstrsAt piece (second_code true (Liw high)) tested first
+    pub start : ℕ
+    pub push : IsAt piece first Psh start
+    pub copied : Bool
+    pub pending : Pending x n done (Opened copied (element_of (shape_of l.scope of)) ∷ []) left rest start c a
+
   -- the end of a procedure or a body
   pub record EndWaits (n : ℕ) (k : List Item) (rest : Setting → Reach) (t : Mode) (p : ℕ) (stack : List ℕ) (c : ℕ) (a : Around) : Type 0 where
     pub quiet : t ≡ Quiet
@@ -800,7 +858,7 @@ module _ (ctx : Setting) where
     pub activation : n ≡ active.activation
     pub alone : a ≡ outside active
     pub free : active.layout.held ≡ []
-    pub idle : active.pushed ≡ 0
+    pub idle : active.pushed ≡ active.copied
     pub end : ℕ
     pub leave : IsAt piece p (leave_code (result_here l.scope)) end
     pub behind : Behind k rest c ctx.stack.callers ctx.stack.bodies
@@ -814,6 +872,7 @@ module _ (ctx : Setting) where
   ItemWaits (Fill (Pass (Called x n) kind done left)) k rest = ValueWaits x n kind done left rest
   ItemWaits (Fill (PassPlace (Called x n) done left)) k rest = PlaceWaits x n done left rest
   ItemWaits (Fill (PassAll (Called x n) done left)) k rest = AllWaits x n done left rest
+  ItemWaits (Fill (PassArray (Called x n) high done left)) k rest = ArrayWaits x n high done left rest
   ItemWaits i k rest = Waiting i (rest ctx)
 
 -- Items that are left; the last is an end. Jumps may lead to the code of each.
@@ -835,6 +894,7 @@ abbrev mutual
   pub place_stutter : Designator → ℕ
   place_stutter (Variable x) = 2
   place_stutter (Handed n x) = 2
+  place_stutter (Along n x e) = 1 + value_stutter e
   place_stutter (Held w) = 2
   place_stutter (Field d i) = 2 + place_stutter d
   place_stutter (Element d k e) = 1 + place_stutter d + value_stutter e
@@ -850,13 +910,15 @@ abbrev mutual
   value_stutter (With s k a) = 1 + value_stutter s + value_stutter a
   value_stutter (WithSpan s k a b) = 1 + value_stutter s + (value_stutter a + value_stutter b)
   value_stutter (Invoke p n k given) = 2 + passing_stutter given
+  value_stutter (High n x) = 1
 
   pub argument_stutter : Argument → ℕ
   argument_stutter (ByValue k e) = value_stutter e
   argument_stutter (OfPlace d) = place_stutter d
   argument_stutter (OfAll d) = place_stutter d
-  argument_stutter (OfArray d high) = place_stutter d
+  argument_stutter (OfArray copied d high) = place_stutter d
   argument_stutter (OfText cs) = 0
+  argument_stutter (OfOpened copied n x) = 0
 
   pub passing_stutter : Arguments → ℕ
   passing_stutter NoMore = 0
@@ -894,6 +956,7 @@ hole_stutter Get = 0
 hole_stutter (PartOf i) = 1
 hole_stutter (IndexBy k e) = value_stutter e
 hole_stutter (IndexAt place k) = 0
+hole_stutter (AlongAt place high) = 0
 hole_stutter (SetTo k e) = value_stutter e
 hole_stutter (StoreAt place k) = 0
 hole_stutter (CopyTo from) = place_stutter from

@@ -3,9 +3,9 @@ use Rattle.std.proofs.Common.{◌≡◌, ℕ, pos, negsuc, Bool, true, false, Li
 use Rattle.std.specs.Prelude.{◌&&◌, Ok, Err, codes}
 use Rattle.lil_base.specs.{Words.{Cardinal, Integer, between}, declared.{operator.TwoOp.TheVariants.{Equal, Less, AtLeast, Plus, Minus, Times, Div, Mod}, request.Request.TheVariants.{Write, WriteCard, WriteInt, WriteOct, WriteHex}}}
 use Rattle.lil_base.specs.declared.fault.TrapKind.TheVariants as trap
-use Rattle.lil_resolved.specs.Kinds.{Workspaces, Kind, OfWhole, OfTruth, OfCharacter, OfPointer, OfRange, Scalar, Number, Truth, Character, SetOf, ToObject, Nil, Nothing, within, value_with, Shape, Word, Row, Address, fields_of}
-use Rattle.lil_resolved.specs.Resolved.{Named, OfModule, OfLevel, Designator, Variable, Handed, Field, Element, Chr, Val, Expression, Constant, Taken, Two, Invoke, ByValue, OfPlace, OfAll, NoMore, given_in, Answer, If, Statement, Assign, Change, Request, Loop, Halt, Return, Call, For, Statements, Empty, Then, Arms, NoElse, Else, Arm, Procedure, Resolved, in_order}
-use Rattle.lil_meaning.specs.{Items.{Global, got, Do, Looping, Turns, End, Item, Perform, Ended, Trapped}, World.{World, Single, piece_of, Stream, Channel, OpenBy, Closed, all_closed}, Steps.{applied, function_value, chosen, turns, exited}, Runs.{src, state_of}, Need.chain_of}
+use Rattle.lil_resolved.specs.Kinds.{Workspaces, Kind, OfWhole, OfTruth, OfCharacter, OfPointer, OfRange, Scalar, Number, Truth, Character, SetOf, ToObject, Nil, Nothing, within, value_with, Shape, Word, Row, Address, Opened, fields_of}
+use Rattle.lil_resolved.specs.Resolved.{Named, OfModule, OfLevel, Designator, Variable, Handed, Along, Field, Element, Chr, Val, Expression, Constant, Taken, Two, Invoke, High, ByValue, OfPlace, OfAll, OfArray, OfText, OfOpened, NoMore, given_in, Answer, If, Statement, Assign, Change, Request, Loop, Halt, Return, Call, For, Statements, Empty, Then, Arms, NoElse, Else, Arm, Procedure, Resolved, in_order}
+use Rattle.lil_meaning.specs.{Items.{Phase, Global, got, Do, Looping, Turns, End, Item, Perform, Ended, Trapped}, World.{World, Single, piece_of, Stream, Channel, OpenBy, Closed, all_closed}, Steps.{applied, function_value, chosen, turns, exited}, Runs.{src, state_of}, Need.chain_of}
 
 -- ---- the turns of FOR: up to the greatest number, none downward, down by two, and past the limit
 turn_counts : turns (pos 65534) (pos 65535) (pos 1) ∷ turns (pos 3) (pos 1) (pos 1) ∷ turns (pos 5) (pos 1) (negsuc 1) ∷ turns (pos 1) (pos 6) (pos 2) ∷ [] ≡ 2 ∷ 0 ∷ 3 ∷ 3 ∷ []
@@ -228,6 +228,72 @@ hands_all = record (table (Assign (third (Variable (OfModule 0))) kc (cardinal 2
 
 a_copy : (w : World) → (got (state_of hands_all (idle w) 60).cells (record { root = Global 1 1; path = [] }) ≡ Number (pos 9)) × (got (state_of hands_all (idle w) 60).cells (record { root = Global 1 0; path = 0 ∷ [] }) ≡ Number (pos 2))
 a_copy w = (refl, refl)
+
+-- ---- open arrays: p(VAR a: ARRAY OF CARDINAL), or by value, is called with the three numbers of the module, whose other variable is c
+abbrev element : ℕ → Designator
+element i = Along 0 0 (cardinal i)
+
+abbrev counted : Designator
+counted = Variable (OfModule 1)
+
+abbrev opened : Bool → List Statement → Procedure
+opened copied statements = record { name = 112 ∷ []; around = []; locals = Opened copied (Word kc) ∷ Word kc ∷ []; parameters = 1; result = None; body = in_order statements }
+
+abbrev first_number : Designator
+first_number = Element (Variable (OfModule 0)) digit (cardinal 3)
+
+abbrev hands_array : Bool → List Procedure → Resolved
+hands_array copied procedures = record (table (Assign first_number kc (cardinal 2) ∷ Assign (Element (Variable (OfModule 0)) digit (cardinal 5)) kc (cardinal 5) ∷ Call 1 0 (given_in (OfArray copied (Variable (OfModule 0)) 2 ∷ [])) ∷ [])) { variables = numbers ∷ Word kc ∷ []; procedures = procedures }
+
+abbrev left_in : World → Resolved → ℕ → List ℕ → Scalar
+left_in w m x path = got (state_of m (idle w) 150).cells (record { root = Global 1 x; path = path })
+
+-- the sum from 0 to HIGH
+abbrev sums : Statement
+sums = For (OfLevel 0 1) kc (cardinal 0) (High 0 0) (pos 1) (in_order (Change false counted kc (Taken (Along 0 0 (Taken (Variable (OfLevel 0 1)) kc)) kc) ∷ []))
+
+a_sum : (w : World) → (left_in w (hands_array false (opened false (sums ∷ []) ∷ [])) 1 [] ≡ Number (pos 7)) × (left_in w (hands_array true (opened true (sums ∷ []) ∷ [])) 1 [] ≡ Number (pos 7))
+a_sum w = (refl, refl)
+
+a_high : (w : World) → left_in w (hands_array false (opened false (Assign counted kc (High 0 0) ∷ []) ∷ [])) 1 [] ≡ Number (pos 2)
+a_high w = refl
+
+-- the array that was handed in changes with a VAR parameter, and not with one by value, which has its change
+abbrev changes_first : List Statement
+changes_first = Assign (element 0) kc (cardinal 9) ∷ Assign counted kc (Taken (element 0) kc) ∷ []
+
+a_change : (w : World) → (left_in w (hands_array false (opened false changes_first ∷ [])) 0 (0 ∷ []) ≡ Number (pos 9)) × (left_in w (hands_array true (opened true changes_first ∷ [])) 0 (0 ∷ []) ≡ Number (pos 2)) × (left_in w (hands_array true (opened true changes_first ∷ [])) 1 [] ≡ Number (pos 9))
+a_change w = (refl, refl, refl)
+
+-- an index above HIGH, or below zero, is a trap
+abbrev indexed_by : World → Expression → Phase
+indexed_by w e = (state_of (hands_array false (opened false (Assign (Along 0 0 e) kc (cardinal 1) ∷ []) ∷ [])) (idle w) 150).phase
+
+no_such_element : (w : World) → indexed_by w (cardinal 3) ∷ indexed_by w (Constant (OfWhole Integer) (Number (negsuc 0))) ∷ indexed_by w (cardinal 2) ∷ []
+    ≡ Trapped (record { kind = trap.Range; «module» = []; procedure = Some (112 ∷ []) }) ∷ Trapped (record { kind = trap.Range; «module» = []; procedure = Some (112 ∷ []) }) ∷ Ended ∷ []
+no_such_element w = refl
+
+-- it is handed on to another procedure, as it is or as a copy
+abbrev handed_over : Bool → List Procedure
+handed_over copied = opened false (Call 2 0 (given_in (OfOpened copied 0 0 ∷ [])) ∷ Assign counted kc (Taken (element 0) kc) ∷ []) ∷ opened copied changes_first ∷ []
+
+a_handing_on : (w : World) → (left_in w (hands_array false (handed_over false)) 1 [] ≡ Number (pos 9)) × (left_in w (hands_array false (handed_over true)) 1 [] ≡ Number (pos 2))
+a_handing_on w = (refl, refl)
+
+-- a call's copy counts from its first statement on: its frame of 4 + 2 + 1 + 3 words, the copy of three and 17 more, beside the body's four and 17
+a_copy_counts : (w : World) → chain_of (hands_array true (opened true (sums ∷ []) ∷ []) ∷ []) (state_of (hands_array true (opened true (sums ∷ []) ∷ [])) (idle w) 20) ∷ chain_of (hands_array true (opened true (sums ∷ []) ∷ []) ∷ []) (state_of (hands_array true (opened true (sums ∷ []) ∷ [])) (idle w) 24) ∷ []
+    ≡ 48 ∷ 51 ∷ []
+a_copy_counts w = refl
+
+-- a string goes to an open array as it is, and an empty one as one 0C
+abbrev text_high : List ℕ → Resolved
+text_high cs = record (table (Call 1 0 (given_in (OfText cs ∷ [])) ∷ [])) {
+  variables = Word OfCharacter ∷ Word kc ∷ [];
+  procedures = record (opened true (Assign (Variable (OfModule 0)) OfCharacter (Taken (element 0) OfCharacter) ∷ Assign counted kc (High 0 0) ∷ [])) { locals = Opened true (Word OfCharacter) ∷ [] } ∷ [];
+}
+
+a_string : (w : World) → (left_in w (text_high (98 ∷ 99 ∷ [])) 0 [] ≡ Character 98) × (left_in w (text_high (98 ∷ 99 ∷ [])) 1 [] ≡ Number (pos 1)) × (left_in w (text_high []) 0 [] ≡ Character 0) × (left_in w (text_high []) 1 [] ≡ Number (pos 0))
+a_string w = (refl, refl, refl, refl)
 
 -- ---- functions: f(n) is 1 where n is 0, else n * f(n - 1)
 abbrev factorial_of : Expression → Expression

@@ -1,6 +1,6 @@
 -- Cells, which hold the scalars of variables, and the items that are left to do.
-use Rattle.std.specs.Prelude.{ℕ, zero, suc, ◌+◌, ◌==◌, Bool, false, ◌&&◌, List, [], ◌∷◌, ◌++◌, Option, Some, None, get_or, slice_get, option_and_then, if◌then◌else◌, ℤ}
-use Rattle.lil_resolved.specs.{Kinds.{Scalar, Character, Nothing, zero_of, Shape, Absent, Word, words, part_at, shape_at, Kind}, Resolved.{Resolved, Named, Designator, Function, Expression, Argument, Arguments, Statement, Statements, Empty, Then, Arms}}
+use Rattle.std.specs.Prelude.{ℕ, zero, suc, ◌+◌, ◌==◌, Bool, false, ◌&&◌, List, [], ◌∷◌, ◌++◌, Option, Some, None, true, get_or, slice_get, option_and_then, if◌then◌else◌, ℤ}
+use Rattle.lil_resolved.specs.{Kinds.{Scalar, Character, Nothing, zero_of, Shape, Absent, Word, Opened, words, part_at, shape_at, Kind}, Resolved.{Resolved, Named, Designator, Function, Expression, Arguments, Statement, Statements, Empty, Then, Arms}}
 use Rattle.lil_base.specs.declared.{fault.TrapAt.TrapAt, operator.{OneOp.OneOp, TwoOp.TwoOp}, request.Request.Request}
 use Rattle.lil_meaning.specs.World.{World}
 
@@ -115,18 +115,23 @@ pub data Datum : Type 0 where
   Opens : (p : Place) (high : ℕ) → Datum
   Texts : (cs : List ℕ) → Datum
 
--- what lies in a variable of a new activation: the value that was given for it, else zero of its kind in each scalar
-abbrev pub begun : Option Datum → Shape → Under
-begun None t = zeros_under t
-begun (Some (Scalars v)) t = alone v
-begun (Some (Places p)) t = zeros_under t
-begun (Some (Wholes u)) t = u
-begun (Some (Opens p high)) t = zeros_under t
-begun (Some (Texts cs)) t = zeros_under t
+-- a parameter that is an open array by value has cells of its own: the copy
+abbrev pub copy_in : Shape → Under → Under
+copy_in (Opened true t) u = u
+copy_in t u = zeros_under t
+
+-- what lies in a variable of a new activation: the value that was given for it, or a copy, else zero of its kind in each scalar
+abbrev pub begun : Cells → Option Datum → Shape → Under
+begun cells None t = zeros_under t
+begun cells (Some (Scalars v)) t = alone v
+begun cells (Some (Places p)) t = zeros_under t
+begun cells (Some (Wholes u)) t = u
+begun cells (Some (Opens p high)) t = copy_in t (under cells p)
+begun cells (Some (Texts cs)) t = copy_in t (text_under cs)
 
 -- the cells of the variables of a new activation, by its number, with what was given for the first of them
 abbrev pub with_locals : Cells → ℕ → List Datum → List Shape → Cells
-with_locals cells a done ts (Local b x) q = if b == a then begun (slice_get done x) (shape_at ts x) q else cells (Local b x) q
+with_locals cells a done ts (Local b x) q = if b == a then begun cells (slice_get done x) (shape_at ts x) q else cells (Local b x) q
 with_locals cells a done ts (Global m x) q = cells (Global m x) q
 with_locals cells a done ts (Object o) q = cells (Object o) q
 
@@ -145,6 +150,8 @@ pub data Hole : Type 0 where
   IndexBy : (k : Kind) (e : Expression) → Hole
   -- the element of the place by the index ·
   IndexAt : (p : Place) (k : Kind) → Hole
+  -- the element of an open array by the index ·; this one is its last
+  AlongAt : (p : Place) (high : ℕ) → Hole
   -- the object that the pointer at the place · points to
   Pointed : Hole
   -- e goes to the place ·, of this kind

@@ -1,7 +1,7 @@
 -- What the calls at hand need of the stack.
-use Rattle.std.specs.Prelude.{ℕ, zero, suc, ◌+◌, ◌<◌, ◌≡◌, ◌⊎◌, List, [], ◌∷◌, length, Option, Some, None, slice_get}
-use Rattle.lil_resolved.specs.{Resolved.{Procedure, Resolved, procedure_by}, Sizes.frame_words}
-use Rattle.lil_meaning.specs.{Items.{loaded_at, Receiver, Requested, Called, Hole, Pass, PassPlace, PassAll, PassArray, Task, Passing, End, Item, Fill, Perform, Activation, Source}, Steps.{current, owner_of, procedures_of}}
+use Rattle.std.specs.Prelude.{ℕ, zero, suc, true, ◌+◌, ◌*◌, ◌<◌, ◌≡◌, ◌⊎◌, List, [], ◌∷◌, length, Option, Some, None, slice_get}
+use Rattle.lil_resolved.specs.{Kinds.{Shape, Opened, words}, Resolved.{Procedure, Resolved, procedure_by}, Sizes.frame_words}
+use Rattle.lil_meaning.specs.{Items.{loaded_at, Receiver, Requested, Called, Hole, Pass, PassPlace, PassAll, PassArray, Task, Passing, End, Item, Fill, Perform, Slot, Here, At, Along, Activation, Source}, Steps.{current, owner_of, procedures_of}}
 
 -- how many words the frame of a procedure takes
 abbrev pub frame_by : Option Procedure → ℕ
@@ -13,10 +13,29 @@ frame_of None p = 0
 frame_of (Some m) zero = frame_words [] m.body
 frame_of (Some m) (suc n) = frame_by (slice_get m.procedures n)
 
--- a call takes its frame, a whole expression stack and its length
+-- how many words the copies of its open arrays take
+abbrev pub copy_words : Slot → Shape → ℕ
+copy_words Here t = 0
+copy_words (At p) t = 0
+copy_words (Along p high) (Opened true t) = suc high * words t
+copy_words (Along p high) _ = 0
+
+abbrev pub copies_words : List Shape → List Slot → ℕ
+copies_words [] slots = 0
+copies_words (t ∷ ts) [] = 0
+copies_words (t ∷ ts) (slot ∷ slots) = copy_words slot t + copies_words ts slots
+
+abbrev pub locals_by : Option Procedure → List Shape
+locals_by None = []
+locals_by (Some q) = q.locals
+
+abbrev pub copies_of : Option Resolved → (p : ℕ) → List Slot → ℕ
+copies_of m p slots = copies_words (locals_by (procedure_by (procedures_of m) p)) slots
+
+-- a call takes its frame, the copies, a whole expression stack and its length
 abbrev pub cost : List Resolved → List ℕ → Option Activation → ℕ
 cost library loaded None = 0
-cost library loaded (Some a) = frame_of (loaded_at library loaded a.owner) a.procedure + 17
+cost library loaded (Some a) = frame_of (loaded_at library loaded a.owner) a.procedure + copies_of (loaded_at library loaded a.owner) a.procedure a.slots + 17
 
 -- no other call is around that of a body
 abbrev pub unless_body : ℕ → ℕ → ℕ

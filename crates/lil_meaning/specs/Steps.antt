@@ -5,10 +5,10 @@ use Rattle.lil_base.specs.{Words.{Whole, Cardinal, sum, difference, product, quo
 use Rattle.lil_base.specs.declared.operator.TwoOp.TheVariants.{Equal, Unequal, Less, AtMost, Greater, AtLeast, In, Plus, Minus, Times, Slash, Div, Mod}
 use Rattle.lil_base.specs.declared.fault.TrapKind.TheVariants as trap
 use Rattle.lil_base.specs.declared.operator.OneOp.TheVariants as one
-use Rattle.lil_resolved.specs.Kinds.{Kind, OfWhole, OfTruth, OfCharacter, OfEnumeration, OfRange, is_set, is_pointer, nat_of, position, Scalar, Number, Truth, Character, SetOf, ToObject, ToWorkspace, Nil, Nothing, same_reference, within, scalar_word, value_with, ordinal_of, truth_number, truth_of, members_of, Shape, shape_at}
+use Rattle.lil_resolved.specs.Kinds.{Kind, OfWhole, OfTruth, OfCharacter, OfEnumeration, OfRange, is_set, is_pointer, nat_of, position, Scalar, Number, Truth, Character, SetOf, ToObject, ToWorkspace, Nil, Nothing, same_reference, within, scalar_word, value_with, ordinal_of, truth_number, truth_of, members_of, Shape, Opened, shape_at}
 use Rattle.lil_resolved.specs.Members.{same_members, included, is_in, united, without, shared_members, unshared, from_to}
-use Rattle.lil_resolved.specs.Resolved.{Named, OfModule, OfLevel, Designator, Variable, Handed, Held, Field, Element, Follow, Function, Abs, Cap, Chr, Odd, Ord, Val, Expression, Constant, Taken, One, Two, Short, Apply, With, WithSpan, Invoke, Argument, ByValue, OfPlace, OfAll, OfArray, OfText, Arguments, NoMore, Also, Label, Statement, Assign, Copy, Text, Change, Member, New, Allocate, Request, If, Case, While, Repeat, Loop, Exit, Halt, Return, Answer, Call, For, Inside, Statements, Arms, NoElse, Else, Arm, Procedure, Resolved, procedure_by, counted_as}
-use Rattle.lil_meaning.specs.Items.{Cells, with_locals, Global, Local, Slot, Here, At, Along, Place, under, part_of, object_place, stored, got, alone, text_under, zeros_under, targets_of, loaded_at, Datum, Scalars, Places, Wholes, Opens, Texts, Hole, Get, Part, IndexBy, IndexAt, Pointed, SetTo, StoreAt, CopyTo, CopyFrom, TextTo, NewAt, AllocateBy, AllocateAt, ChangeBy, ChangeAt, OneOf, LeftOf, RightOf, ShortOf, ApplyTo, WithMember, MemberOf, WithMembers, MembersFrom, MembersTo, MemberBy, MemberAt, Receiver, Requested, Called, Pass, PassPlace, PassAll, PassArray, Returning, Choose, Turn, Again, Pick, Hold, StartOf, LimitOf, Task, Do, Passing, Until, Looping, Turns, Holding, End, Item, Value, Evaluate, PlaceOf, Fill, Perform, doing, Activation, Parked, Level, Phase, Going, Closing, Ended, Trapped, Source}
+use Rattle.lil_resolved.specs.Resolved.{Named, OfModule, OfLevel, Designator, Variable, Handed, Along, Held, Field, Element, Follow, Function, Abs, Cap, Chr, Odd, Ord, Val, Expression, Constant, Taken, One, Two, Short, Apply, With, WithSpan, Invoke, High, Argument, ByValue, OfPlace, OfAll, OfArray, OfText, OfOpened, Arguments, NoMore, Also, Label, Statement, Assign, Copy, Text, Change, Member, New, Allocate, Request, If, Case, While, Repeat, Loop, Exit, Halt, Return, Answer, Call, For, Inside, Statements, Arms, NoElse, Else, Arm, Procedure, Resolved, procedure_by, counted_as}
+use Rattle.lil_meaning.specs.Items.{Cells, with_locals, Global, Local, Slot, Here, At, Along as Spread, Place, under, part_of, object_place, stored, got, alone, text_under, zeros_under, targets_of, loaded_at, Datum, Scalars, Places, Wholes, Opens, Texts, Hole, Get, Part, IndexBy, IndexAt, AlongAt, Pointed, SetTo, StoreAt, CopyTo, CopyFrom, TextTo, NewAt, AllocateBy, AllocateAt, ChangeBy, ChangeAt, OneOf, LeftOf, RightOf, ShortOf, ApplyTo, WithMember, MemberOf, WithMembers, MembersFrom, MembersTo, MemberBy, MemberAt, Receiver, Requested, Called, Pass, PassPlace, PassAll, PassArray, Returning, Choose, Turn, Again, Pick, Hold, StartOf, LimitOf, Task, Do, Passing, Until, Looping, Turns, Holding, End, Item, Value, Evaluate, PlaceOf, Fill, Perform, doing, Activation, Parked, Level, Phase, Going, Closing, Ended, Trapped, Source}
 use Rattle.lil_meaning.specs.World.{World, Given, Single, Characters, serve, closing}
 
 -- the activation at hand: that of the nearest end
@@ -247,7 +247,7 @@ abbrev pub slot_place : (a x : ℕ) → Option Slot → Option Place
 slot_place a x None = None
 slot_place a x (Some Here) = Some (record { root = Local a x; path = [] })
 slot_place a x (Some (At p)) = Some p
-slot_place a x (Some (Along p high)) = None
+slot_place a x (Some (Spread p high)) = None
 
 abbrev pub slots_of : Option Activation → List Slot
 slots_of None = []
@@ -261,6 +261,34 @@ local_place acts (Some a) x = slot_place a x (slice_get (slots_of (slice_get act
 abbrev pub variable_place : Source → Named → Option Place
 variable_place s (OfModule x) = Some (record { root = Global (module_now s) x; path = [] })
 variable_place s (OfLevel n x) = local_place s.activations (level_out s.activations (current s.items) n) x
+
+-- a slot as an open array: its place, and the number of its last element
+abbrev pub slot_array : Option Slot → Option (Place × ℕ)
+slot_array None = None
+slot_array (Some Here) = None
+slot_array (Some (At p)) = None
+slot_array (Some (Spread p high)) = Some (p, high)
+
+abbrev pub local_array : List Activation → Option ℕ → ℕ → Option (Place × ℕ)
+local_array acts None x = None
+local_array acts (Some a) x = slot_array (slice_get (slots_of (slice_get acts a)) x)
+
+-- an open array of the activation so many levels out of the one at hand
+abbrev pub array_of : Source → (n x : ℕ) → Option (Place × ℕ)
+array_of s n x = local_array s.activations (level_out s.activations (current s.items) n) x
+
+-- without it nothing happens
+abbrev pub indexed : Option (Place × ℕ) → Expression → List Item → Source → Source
+indexed None e k s = s
+indexed (Some o) e k s = with_items s (Evaluate e ∷ Fill (AlongAt o.0 o.1) ∷ k)
+
+abbrev pub measured : Option (Place × ℕ) → List Item → Source → Source
+measured None k s = s
+measured (Some o) k s = with_items s (Value (Scalars (Number (pos o.1))) ∷ k)
+
+abbrev pub handed_on : Option (Place × ℕ) → Receiver → List Datum → Arguments → List Item → Source → Source
+handed_on None r done left k s = s
+handed_on (Some o) r done left k s = with_items s (Perform (Passing r (done ++ Opens o.0 o.1 ∷ []) left) ∷ k)
 
 -- the place that a WITH around holds, by how many others are between
 abbrev pub nearest : Place → (ℕ → Option Place) → ℕ → Option Place
@@ -281,6 +309,7 @@ found_at (Some p) k s = with_items s (Value (Places p) ∷ k)
 abbrev pub placed : Designator → List Item → Source → Source
 placed (Variable v) k s = found_at (variable_place s v) k s
 placed (Handed n x) k s = found_at (variable_place s (OfLevel n x)) k s
+placed (Along n x e) k s = indexed (array_of s n x) e k s
 placed (Held w) k s = found_at (held_in k w) k s
 placed (Field d i) k s = with_items s (PlaceOf d ∷ Fill (Part i) ∷ k)
 placed (Element d kind e) k s = with_items s (PlaceOf d ∷ Fill (IndexBy kind e) ∷ k)
@@ -296,6 +325,7 @@ evaluated (Apply f a) k s = with_items s (Evaluate a ∷ Fill (ApplyTo f) ∷ k)
 evaluated (With e kind a) k s = with_items s (Evaluate e ∷ Fill (WithMember kind a) ∷ k)
 evaluated (WithSpan e kind a b) k s = with_items s (Evaluate e ∷ Fill (WithMembers kind a b) ∷ k)
 evaluated (Invoke p n kind given) k s = with_items s (Perform (Passing (Called p n) [] given) ∷ k)
+evaluated (High n x) k s = measured (array_of s n x) k s
 
 -- what INC and DEC make of two numbers
 abbrev pub changed : Bool → Whole → ℤ → ℤ → Result ℤ ArithFault
@@ -343,6 +373,7 @@ allocated true n p k s = record s { items = k; cells = stored s.cells p (alone N
 -- a scalar goes into a hole
 abbrev pub filled : List Resolved → Hole → Scalar → List Item → Source → Source
 filled library (IndexAt p kind) v k s = if within kind v then with_items s (Value (Places (part_of p (position kind (ordinal_of v)))) ∷ k) else trapped library s trap.Range
+filled library (AlongAt p high) v k s = if between (pos 0) (ordinal_of v) (pos high) then with_items s (Value (Places (part_of p (nat_of (ordinal_of v)))) ∷ k) else trapped library s trap.Range
 filled library (StoreAt p kind) v k s = if within kind v then record s { items = k; cells = stored s.cells p (alone v) } else trapped library s trap.Range
 filled library (ChangeAt down p kind) v k s = stored_with library p (value_of kind (changed down (counted_as kind) (ordinal_of (got s.cells p)) (whole_of v))) k s
 filled library (AllocateAt back p) v k s = if within (OfWhole Cardinal) v then allocated back (nat_of (ordinal_of v)) p k s else trapped library s trap.Range
@@ -418,26 +449,31 @@ abbrev pub procedures_of : Option Resolved → List Procedure
 procedures_of None = []
 procedures_of (Some m) = m.procedures
 
--- a variable of a procedure is one of its own cells, or what was handed in
+-- a variable of a procedure is one of its own cells, what was handed in, or an open array
 abbrev pub own_slot : Shape → Slot
 own_slot t = Here
 
-abbrev pub slot_of : Datum → Slot
-slot_of (Scalars v) = Here
-slot_of (Places p) = At p
-slot_of (Wholes u) = Here
-slot_of (Opens p high) = Along p high
-slot_of (Texts cs) = Here
+-- an open array by value is its copy
+abbrev pub lent : Shape → (own given : Place) → Place
+lent (Opened true t) own given = own
+lent t own given = given
 
--- its variables, the first by what was given for them
-abbrev pub slots_by : List Datum → List Shape → List Slot
-slots_by [] ts = map own_slot ts
-slots_by (d ∷ done) [] = []
-slots_by (d ∷ done) (t ∷ ts) = slot_of d ∷ slots_by done ts
+abbrev pub slot_of : Place → Shape → Datum → Slot
+slot_of own t (Scalars v) = Here
+slot_of own t (Places p) = At p
+slot_of own t (Wholes u) = Here
+slot_of own t (Opens p high) = Spread (lent t own p) high
+slot_of own t (Texts cs) = Spread own (length cs - 1)
+
+-- its variables from a number on, the first by what was given for them
+abbrev pub slots_by : (a x : ℕ) → List Datum → List Shape → List Slot
+slots_by a x [] ts = map own_slot ts
+slots_by a x (d ∷ done) [] = []
+slots_by a x (d ∷ done) (t ∷ ts) = slot_of (record { root = Local a x; path = [] }) t d ∷ slots_by a (suc x) done ts
 
 -- the activation of a procedure that the one at hand calls
 abbrev pub called_by : List Activation → (owner here p n : ℕ) → List Datum → Procedure → Activation
-called_by acts owner here p n done its = record { owner = owner; procedure = p; outer = declaring acts here n; slots = slots_by done its.locals }
+called_by acts owner here p n done its = record { owner = owner; procedure = p; outer = declaring acts here n; slots = slots_by (length acts) 0 done its.locals }
 
 -- a procedure begins: its activation, whose other variables are zero, its statements and its end
 abbrev pub entered : Option Procedure → (Procedure → Activation) → List Datum → List Item → Source → Source
@@ -519,8 +555,9 @@ abbrev pub passed : Receiver → List Datum → Arguments → Argument → List 
 passed r done left (ByValue kind e) k s = with_items s (Evaluate e ∷ Fill (Pass r kind done left) ∷ k)
 passed r done left (OfPlace d) k s = with_items s (PlaceOf d ∷ Fill (PassPlace r done left) ∷ k)
 passed r done left (OfAll d) k s = with_items s (PlaceOf d ∷ Fill (PassAll r done left) ∷ k)
-passed r done left (OfArray d high) k s = with_items s (PlaceOf d ∷ Fill (PassArray r high done left) ∷ k)
+passed r done left (OfArray copied d high) k s = with_items s (PlaceOf d ∷ Fill (PassArray r high done left) ∷ k)
 passed r done left (OfText cs) k s = with_items s (Perform (Passing r (done ++ Texts cs ∷ []) left) ∷ k)
+passed r done left (OfOpened copied n x) k s = handed_on (array_of s n x) r done left k s
 
 -- a request was served; one that answers gets its row with its answers
 abbrev pub replied : List Datum → List Given → World → List Item → Source → Source

@@ -2,8 +2,8 @@
 use Rattle.std.proofs.Common.{◌≡◌, ℕ, ◌+◌, ◌<◌, Bool, true, false, ◌&&◌, if◌then◌else◌, List, [], ◌∷◌, map, drop, length, get_or, refl, sym, ap, ◌∙◌}
 use Rattle.std.proofs.lemmas.List.{drop_more}
 use Rattle.lil_base.specs.declared.operator.TwoOp.{TwoOp, TheVariants.{Plus, Minus, Times, Slash, Div, Mod, And}}
-use Rattle.lil_resolved.specs.{declared.resolved.{RExpr.RExpr, RArgument.{TheOpen.{RSelector-F, RMember-F}, TheFolds.map-RMember}, ROperation.{ROperation, out-ROperation}, RMember.{RMember, out-RMember}, RKind.RKind, RPlace.RPlace, RArgument.RArgument, RSelector.RSelector}, Kinds.{Kind, OfTruth, OfSet}, Resolved.{Designator, Expression, Argument, kind_of}}
-use Rattle.lil_resolved.specs.Views.{chain_is, set_is, operation_is, member_is, two_of, chained, with_members, empty_set, kind_view, member_layer, expression_of, selector_of, member_of, operation_of, argument_of, place_of}
+use Rattle.lil_resolved.specs.{declared.resolved.{RExpr.RExpr, RArgument.{TheOpen.{RSelector-F, RMember-F}, TheFolds.map-RMember}, ROperation.{ROperation, out-ROperation}, RMember.{RMember, out-RMember}, RKind.RKind, RPlace.RPlace, RRoot.RRoot, RArgument.RArgument, RSelector.RSelector}, Kinds.{Kind, OfTruth, OfSet}, Resolved.{Designator, Expression, Argument, kind_of}}
+use Rattle.lil_resolved.specs.Views.{chain_is, set_is, operation_is, member_is, two_of, chained, with_members, empty_set, kind_view, member_layer, expression_of, selector_of, member_of, operation_of, argument_of, place_of, root_of}
 use Rattle.lil_resolved.specs.declared.resolved.RExpr.TheVariants as e
 use Rattle.lil_resolved.specs.declared.resolved.RArgument.TheOpen as x
 
@@ -49,8 +49,8 @@ pub arithmetic_left : (os : List ROperation) (i : ℕ) (o : ROperation) → i < 
 arithmetic_left os i o inside is = ap all_arithmetic (drop_more os i o inside ∙ ap (λ y. y ∷ drop (i + 1) os) (sym is))
 
 -- ---- sets
-member_layer_kind : (y : RMember-F RArgument RExpr RMember RSelector ROperation RPlace) (k : Kind) (s : Expression)
-    → kind_of (member_layer (map-RMember RArgument RExpr RMember RSelector ROperation RPlace Argument Expression (Kind → Expression → Expression) (Designator → Designator) (Expression → Expression) Designator argument_of expression_of member_of selector_of operation_of place_of y) k s) ≡ OfSet
+member_layer_kind : (y : RMember-F RArgument RExpr RMember RRoot RSelector ROperation RPlace) (k : Kind) (s : Expression)
+    → kind_of (member_layer (map-RMember RArgument RExpr RMember RRoot RSelector ROperation RPlace Argument Expression (Kind → Expression → Expression) Designator (Designator → Designator) (Expression → Expression) Designator argument_of expression_of member_of root_of selector_of operation_of place_of y) k s) ≡ OfSet
 member_layer_kind (x.Single a) k s = refl
 member_layer_kind (x.Span a b) k s = refl
 

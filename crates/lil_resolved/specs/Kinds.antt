@@ -268,7 +268,8 @@ scalar_word _ = 0
 -- ---- shapes: which scalars lie in a variable or an object, by their paths, and how many words they take
 
 -- No cell, a scalar of a kind, no field, a field before others, so many elements, the address of a place of a shape, which a VAR parameter
--- holds, or the address of the first of elements and the number of the last one, which an open array holds. What holds an address has no cells.
+-- holds, or the address of the first of elements and the number of the last one, which an open array holds. One by value is copied where its
+-- procedure is entered. What holds an address has no cells.
 pub data Shape : Type 0 where
   Absent : Shape
   Word : (k : Kind) → Shape
@@ -276,7 +277,7 @@ pub data Shape : Type 0 where
   Join : (first rest : Shape) → Shape
   Row : (count : ℕ) (element : Shape) → Shape
   Address : (to : Shape) → Shape
-  Opened : (element : Shape) → Shape
+  Opened : (copied : Bool) (element : Shape) → Shape
 
 abbrev pub words : Shape → ℕ
 words Absent = 0
@@ -285,7 +286,7 @@ words Blank = 0
 words (Join a b) = words a + words b
 words (Row n t) = n * words t
 words (Address t) = 1
-words (Opened t) = 2
+words (Opened copied t) = 2
 
 -- whether something with cells lies there
 abbrev pub is_there : Shape → Bool
@@ -295,7 +296,7 @@ is_there Blank = true
 is_there (Join a b) = true
 is_there (Row n t) = true
 is_there (Address t) = false
-is_there (Opened t) = false
+is_there (Opened copied t) = false
 
 -- what lies at the end of a path; a field's number counts the fields before it
 abbrev pub part_at : Shape → List ℕ → Shape
@@ -349,6 +350,11 @@ count_of _ = 0
 abbrev pub led_to : Shape → Shape
 led_to (Address t) = t
 led_to _ = Absent
+
+-- what each element of an open array is
+abbrev pub along : Shape → Shape
+along (Opened copied t) = t
+along _ = Absent
 
 -- what names elsewhere need of a procedure: those around it by their numbers, the innermost first, the shapes of its variables, its parameters
 -- first, how many of them are parameters, and the kind of what it returns

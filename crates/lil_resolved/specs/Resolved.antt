@@ -2,7 +2,7 @@
 use Rattle.std.specs.Prelude.{ℕ, ℤ, Bool, true, false, List, [], ◌∷◌, Option, map, slice_get}
 use Rattle.lil_base.specs.{Words.{Whole, Cardinal}, declared.operator.{OneOp.OneOp, TwoOp.{TwoOp, TheVariants.{Equal, Unequal, Less, AtMost, Greater, AtLeast, In, Plus, Minus, Or, Times, Slash, Div, Mod, And}}}}
 use Rattle.lil_base.specs.declared.request.Request as request
-use Rattle.lil_resolved.specs.Kinds.{Kind, OfWhole, OfTruth, OfCharacter, OfSet, base_of, compared_as, Scalar, Shape, Outline, Scope, locals_at, parameters_at, outermost, part_at, shape_by, shape_at, element_of, led_to}
+use Rattle.lil_resolved.specs.Kinds.{Kind, OfWhole, OfTruth, OfCharacter, OfSet, base_of, compared_as, Scalar, Shape, Outline, Scope, locals_at, parameters_at, outermost, part_at, shape_by, shape_at, element_of, led_to, along}
 pub use Rattle.lil_resolved.specs.Kinds.{procedure_by}
 
 -- standard functions of one value
@@ -25,6 +25,8 @@ mutual
     Variable : (v : Named) → Designator
     -- what was handed in for a VAR parameter, which is a variable of the procedure so many levels out
     Handed : (n x : ℕ) → Designator
+    -- an element of the open array that is a parameter, a variable of the procedure so many levels out
+    Along : (n x : ℕ) (e : Expression) → Designator
     -- the record of a WITH around, by how many others are between
     Held : (w : ℕ) → Designator
     -- a field of a record, by its number
@@ -53,15 +55,18 @@ mutual
     WithSpan : (s : Expression) (k : Kind) (a b : Expression) → Expression
     -- what a procedure returns, of a kind: it is called by its number, and is declared so many levels out
     Invoke : (p n : ℕ) (k : Kind) (given : Arguments) → Expression
+    -- HIGH: the number of the last element of the open array that is a parameter, a variable of the procedure so many levels out
+    High : (n x : ℕ) → Expression
 
   -- an argument: a value, with its parameter's kind; a place for a VAR parameter; all that lies at a place, for an array or a record by value;
-  -- or for an open array of characters an array, with the number of its last element, or a string
+  -- or for an open array, which may be copied, an array with the number of its last element, a string, or the open array that is a parameter
   pub data Argument : Type 0 where
     ByValue : (k : Kind) (e : Expression) → Argument
     OfPlace : (d : Designator) → Argument
     OfAll : (d : Designator) → Argument
-    OfArray : (d : Designator) (high : ℕ) → Argument
+    OfArray : (copied : Bool) (d : Designator) (high : ℕ) → Argument
     OfText : (cs : List ℕ) → Argument
+    OfOpened : (copied : Bool) (n x : ℕ) → Argument
 
   -- the arguments of a call, from left to right
   pub data Arguments : Type 0 where
@@ -210,6 +215,7 @@ kind_of (Apply f a) = function_kind f
 kind_of (With s k a) = OfSet
 kind_of (WithSpan s k a b) = OfSet
 kind_of (Invoke p n k given) = base_of k
+kind_of (High n x) = OfWhole Cardinal
 
 -- the shape of a variable, if there is one
 abbrev pub variable_at : Scope → Named → Option Shape
@@ -220,6 +226,7 @@ variable_at ts (OfLevel n x) = slice_get (locals_at ts n) x
 abbrev pub shape_of : Scope → Designator → Shape
 shape_of ts (Variable v) = shape_by (variable_at ts v)
 shape_of ts (Handed n x) = led_to (shape_at (parameters_at ts n) x)
+shape_of ts (Along n x e) = along (shape_at (parameters_at ts n) x)
 shape_of ts (Held w) = shape_at ts.held w
 shape_of ts (Field d i) = part_at (shape_of ts d) (i ∷ [])
 shape_of ts (Element d k e) = element_of (shape_of ts d)

@@ -1,8 +1,8 @@
 -- How much a module takes: words of the expression stack, of frames and of strings, and the bytes of its code; and modules that are small.
-use Rattle.std.specs.Prelude.{ℕ, zero, suc, List, [], ◌∷◌, ◌++◌, Option, Some, None, ◌+◌, max, Bool, true, false, ◌*◌, ◌≤◌, ℤ, length, if◌then◌else◌}
+use Rattle.std.specs.Prelude.{ℕ, zero, suc, List, [], ◌∷◌, ◌++◌, Option, Some, None, ◌+◌, max, Bool, true, false, ◌*◌, ◌≤◌, ℤ, length, take, if◌then◌else◌}
 use Rattle.std.specs.List.{flat_map}
-use Rattle.lil_resolved.specs.Resolved.{Named, OfModule, OfLevel, Argument, ByValue, OfPlace, OfAll, OfArray, OfText, Arguments, NoMore, Also, Statement, Assign, Copy, Text, Change, Member, New, Allocate, Request, If, Case, While, Repeat, Loop, Exit, Halt, Return, Answer, Call, For, Inside, Statements, Empty, Then, Arms, NoElse, Else, Arm, Procedure, Resolved, Designator, Variable, Handed, Held, Field, Element, Follow, Function, Odd, Expression, Constant, Taken, One, Two, Short, Apply, With, WithSpan, Invoke, Abs, Cap, Chr, Ord, Val, kind_of, counted_as}
-use Rattle.lil_resolved.specs.Kinds.{Kind, OfWhole, OfCharacter, base_of, compared_as, covers, outside_turns, Shape, all_words}
+use Rattle.lil_resolved.specs.Resolved.{Named, OfModule, OfLevel, Argument, ByValue, OfPlace, OfAll, OfArray, OfText, OfOpened, Arguments, NoMore, Also, Statement, Assign, Copy, Text, Change, Member, New, Allocate, Request, If, Case, While, Repeat, Loop, Exit, Halt, Return, Answer, Call, For, Inside, Statements, Empty, Then, Arms, NoElse, Else, Arm, Procedure, Resolved, Designator, Variable, Handed, Along, Held, Field, Element, Follow, Function, Odd, Expression, Constant, Taken, One, Two, Short, Apply, With, WithSpan, Invoke, High, Abs, Cap, Chr, Ord, Val, kind_of, counted_as}
+use Rattle.lil_resolved.specs.Kinds.{Kind, OfWhole, OfCharacter, base_of, compared_as, covers, outside_turns, Shape, Absent, Word, Blank, Join, Row, Address, Opened, all_words}
 use Rattle.lil_base.specs.{declared.operator.{OneOp.OneOp, TwoOp.{TwoOp, TheVariants.{Greater, AtLeast}}}, Words.{Cardinal, Integer}}
 use Rattle.lil_base.specs.declared.operator.OneOp.TheVariants as one
 
@@ -13,39 +13,62 @@ abbrev pub words_of : List ℕ → List ℕ
 words_of [] = 0 ∷ []
 words_of (c ∷ cs) = c ∷ cs
 
-abbrev pub argument_strings : Argument → List ℕ
-argument_strings (ByValue k e) = []
-argument_strings (OfPlace d) = []
-argument_strings (OfAll d) = []
-argument_strings (OfArray d high) = []
-argument_strings (OfText cs) = words_of cs
+abbrev mutual
+  pub place_strings : Designator → List ℕ
+  place_strings (Variable v) = []
+  place_strings (Handed n x) = []
+  place_strings (Along n x e) = expression_strings e
+  place_strings (Held w) = []
+  place_strings (Field d i) = place_strings d
+  place_strings (Element d k e) = place_strings d ++ expression_strings e
+  place_strings (Follow d n) = place_strings d
 
-abbrev pub arguments_strings : Arguments → List ℕ
-arguments_strings NoMore = []
-arguments_strings (Also a given) = argument_strings a ++ arguments_strings given
+  pub expression_strings : Expression → List ℕ
+  expression_strings (Constant k v) = []
+  expression_strings (Taken d k) = place_strings d
+  expression_strings (One o k a) = expression_strings a
+  expression_strings (Two o k a b) = expression_strings a ++ expression_strings b
+  expression_strings (Short d a b) = expression_strings a ++ expression_strings b
+  expression_strings (Apply f a) = expression_strings a
+  expression_strings (With s k a) = expression_strings s ++ expression_strings a
+  expression_strings (WithSpan s k a b) = expression_strings s ++ expression_strings a ++ expression_strings b
+  expression_strings (Invoke p n k given) = arguments_strings given
+  expression_strings (High n x) = []
+
+  pub argument_strings : Argument → List ℕ
+  argument_strings (ByValue k e) = expression_strings e
+  argument_strings (OfPlace d) = place_strings d
+  argument_strings (OfAll d) = place_strings d
+  argument_strings (OfArray copied d high) = place_strings d
+  argument_strings (OfText cs) = words_of cs
+  argument_strings (OfOpened copied n x) = []
+
+  pub arguments_strings : Arguments → List ℕ
+  arguments_strings NoMore = []
+  arguments_strings (Also a given) = argument_strings a ++ arguments_strings given
 
 abbrev mutual
   pub statement_strings : Statement → List ℕ
-  statement_strings (Assign d k e) = []
-  statement_strings (Copy d from) = []
-  statement_strings (Text d cs) = words_of cs
-  statement_strings (Change down d k e) = []
-  statement_strings (Member out d k e) = []
-  statement_strings (New d n) = []
-  statement_strings (Allocate back d e) = []
+  statement_strings (Assign d k e) = place_strings d ++ expression_strings e
+  statement_strings (Copy d from) = place_strings d ++ place_strings from
+  statement_strings (Text d cs) = place_strings d ++ words_of cs
+  statement_strings (Change down d k e) = place_strings d ++ expression_strings e
+  statement_strings (Member out d k e) = place_strings d ++ expression_strings e
+  statement_strings (New d n) = place_strings d
+  statement_strings (Allocate back d e) = place_strings d ++ expression_strings e
   statement_strings (Request r given) = arguments_strings given
-  statement_strings (If c a b) = body_strings a ++ body_strings b
-  statement_strings (Case e arms) = arms_strings arms
-  statement_strings (While c body) = body_strings body
-  statement_strings (Repeat body c) = body_strings body
+  statement_strings (If c a b) = expression_strings c ++ body_strings a ++ body_strings b
+  statement_strings (Case e arms) = expression_strings e ++ arms_strings arms
+  statement_strings (While c body) = expression_strings c ++ body_strings body
+  statement_strings (Repeat body c) = body_strings body ++ expression_strings c
   statement_strings (Loop body) = body_strings body
   statement_strings Exit = []
   statement_strings Halt = []
   statement_strings Return = []
-  statement_strings (Answer k e) = []
-  statement_strings (Call p n given) = []
-  statement_strings (For v k a b step body) = body_strings body
-  statement_strings (Inside d body) = body_strings body
+  statement_strings (Answer k e) = expression_strings e
+  statement_strings (Call p n given) = arguments_strings given
+  statement_strings (For v k a b step body) = expression_strings a ++ expression_strings b ++ body_strings body
+  statement_strings (Inside d body) = place_strings d ++ body_strings body
 
   pub body_strings : Statements → List ℕ
   body_strings Empty = []
@@ -78,6 +101,7 @@ abbrev mutual
   pub place_depth : Designator → ℕ
   place_depth (Variable v) = 1
   place_depth (Handed n x) = 1
+  place_depth (Along n x e) = 2 + depth e
   place_depth (Held w) = 1
   place_depth (Field d i) = place_depth d
   place_depth (Element d k e) = max (place_depth d) (2 + depth e)
@@ -94,6 +118,7 @@ abbrev mutual
   depth (WithSpan s k a b) = max (depth s) (max (1 + depth a) (2 + depth b))
   -- what stood on the expression stack is saved until it has returned
   depth (Invoke p n k given) = 1
+  depth (High n x) = 1
 
 -- how many words of the frame the FORs and the WITHs in statements take: three each FOR, and one each WITH
 abbrev mutual
@@ -183,6 +208,7 @@ variable_form (OfLevel (suc n) x) = Outward
 abbrev pub form_of : Designator → Form
 form_of (Variable v) = variable_form v
 form_of (Handed n x) = Exact
+form_of (Along n x e) = Exact
 form_of (Held w) = Exact
 form_of (Field d i) = field_form (form_of d)
 form_of (Element d k e) = Exact
@@ -223,7 +249,7 @@ under_size Direct = 4
 under_size Outward = 5
 under_size _ = 3
 
--- how many bytes it takes to bring the address that a VAR parameter holds to the expression stack
+-- how many bytes it takes to bring the address that a VAR parameter holds to the expression stack, or each of the words of an open array
 abbrev pub handed_size : ℕ → ℕ
 handed_size zero = 3
 handed_size (suc n) = 4
@@ -233,19 +259,25 @@ abbrev pub argument_words : Argument → ℕ
 argument_words (ByValue k e) = 1
 argument_words (OfPlace d) = 1
 argument_words (OfAll d) = 1
-argument_words (OfArray d high) = 2
+argument_words (OfArray copied d high) = 2
 argument_words (OfText cs) = 2
+argument_words (OfOpened copied n x) = 2
 
 -- how many bytes it takes to bring its words to the frame that a call begins
 abbrev pub push_size : Argument → ℕ
+push_size (ByValue k e) = 1
+push_size (OfPlace d) = 1
 push_size (OfAll d) = 3
-push_size a = argument_words a
+push_size (OfArray copied d high) = 2
+push_size (OfText cs) = 2
+push_size (OfOpened copied n x) = 2
 
 -- how many bytes the code of a place, of an expression, and of arguments that go to a frame takes
 abbrev mutual
   pub place_size : Designator → ℕ
   place_size (Variable v) = 0
   place_size (Handed n x) = handed_size n
+  place_size (Along n x e) = handed_size n + handed_size n + size e + test_size (OfWhole Cardinal) (kind_of e) + 3
   place_size (Held w) = 3
   place_size (Field d i) = place_size d
   place_size (Element d k e) = place_size d + address_size (form_of d) + size e + test_size k (kind_of e) + 5
@@ -261,13 +293,15 @@ abbrev mutual
   size (With s k a) = size s + size a + test_size k (kind_of a) + 2
   size (WithSpan s k a b) = size s + size a + test_size k (kind_of a) + size b + test_size k (kind_of b) + 1
   size (Invoke p n k given) = 9 + pushed_size given
+  size (High n x) = handed_size n
 
   pub argument_size : Argument → ℕ
   argument_size (ByValue k e) = size e + test_size k (kind_of e)
   argument_size (OfPlace d) = place_size d + address_size (form_of d)
   argument_size (OfAll d) = place_size d + address_size (form_of d)
-  argument_size (OfArray d high) = place_size d + address_size (form_of d) + 3
+  argument_size (OfArray copied d high) = place_size d + address_size (form_of d) + 3
   argument_size (OfText cs) = 6
+  argument_size (OfOpened copied n x) = handed_size n + handed_size n
 
   pub pushed_size : Arguments → ℕ
   pushed_size NoMore = 0
@@ -327,15 +361,30 @@ abbrev pub leave_size : Option Kind → ℕ
 leave_size None = 1
 leave_size (Some k) = 2
 
-abbrev pub framed_size : Option Kind → Statements → ℕ
-framed_size result ss = 3 + body_size ss + leave_size result
+-- with those that copy its parameters that are open arrays by value
+abbrev pub copy_size : Shape → ℕ
+copy_size Absent = 0
+copy_size (Word k) = 0
+copy_size Blank = 0
+copy_size (Join a b) = 0
+copy_size (Row n t) = 0
+copy_size (Address t) = 0
+copy_size (Opened false t) = 0
+copy_size (Opened true t) = 5
+
+abbrev pub copies_size : List Shape → ℕ
+copies_size [] = 0
+copies_size (t ∷ ts) = copy_size t + copies_size ts
+
+abbrev pub framed_size : Option Kind → List Shape → Statements → ℕ
+framed_size result parameters ss = 3 + copies_size parameters + body_size ss + leave_size result
 
 abbrev pub procedures_size : List Procedure → ℕ
 procedures_size [] = 0
-procedures_size (p ∷ ps) = framed_size p.result p.body + procedures_size ps
+procedures_size (p ∷ ps) = framed_size p.result (take p.parameters p.locals) p.body + procedures_size ps
 
 abbrev pub code_size : Resolved → ℕ
-code_size m = framed_size None m.body + procedures_size m.procedures
+code_size m = framed_size None [] m.body + procedures_size m.procedures
 
 -- code, and the words of strings behind the variables
 pub record IsSmall (m : Resolved) (strings : List ℕ) : Type 0 where

@@ -1,13 +1,13 @@
 -- Sound resolved modules: places have the kinds that their uses say, indexes choose from all elements, operands have their operator's kind, and constants fit theirs.
-use Rattle.std.specs.Prelude.{◌≡◌, ◌≢◌, ℕ, suc, ◌≤◌, nat_le, length, ℤ, pos, negsuc, ◌≤ℤ◌, Bool, true, false, ◌&&◌, ◌||◌, List, [], ◌∷◌, map, Some, None, slice_get}
+use Rattle.std.specs.Prelude.{◌≡◌, ◌≢◌, ℕ, suc, ◌≤◌, nat_le, length, ℤ, pos, negsuc, ◌≤ℤ◌, Bool, true, false, ◌&&◌, ◌||◌, List, [], ◌∷◌, Some, None, slice_get}
 use Rattle.std.specs.List.{list_all}
 use Rattle.lil_base.specs.{Words.{Cardinal, Integer}, declared.operator.{OneOp.OneOp, TwoOp.{TwoOp, TheVariants.{Equal, Unequal, Less, AtMost, Greater, AtLeast, In, Plus, Minus, Or, Times, Slash, Div, Mod, And}}}}
 use Rattle.lil_base.specs.declared.operator.OneOp.TheVariants as one
 use Rattle.lil_base.specs.declared.request.Request as request
 use Rattle.lil_base.specs.declared.request.Request.TheVariants as r
 pub use Rattle.lil_resolved.specs.Kinds.{is_base, is_ordinal, is_set, is_whole, is_plain, is_element, alike, takes_value, stores_value}
-use Rattle.lil_resolved.specs.Kinds.{Objects, Workspaces, Kind, OfWhole, OfTruth, OfCharacter, OfSet, OfPointer, base_of, numbers, within, is_literal, scalar_of, ordinal_of, Shape, Word, Row, Address, Opened, Scope, with_held, MayCall, result_of, result_here, parameters_of, parameters_at, shape_at, is_there, count_of}
-use Rattle.lil_resolved.specs.Resolved.{Named, variable_at, Designator, Variable, Handed, Held, Field, Element, Follow, Function, Abs, Cap, Chr, Odd, Ord, Val, Expression, Constant, Taken, One, Two, Short, Apply, With, WithSpan, Invoke, Label, Argument, ByValue, OfPlace, OfAll, OfArray, OfText, Arguments, NoMore, Also, Statement, Assign, Copy, Text, Change, Member, New, Allocate, Request, If, Case, While, Repeat, Loop, Exit, Halt, Return, Answer, Call, For, Inside, Statements, Empty, Then, Arms, NoElse, Else, Arm, Procedure, Resolved, procedure_by, scope_in, kind_of, right_kind, counted_as, shape_of}
+use Rattle.lil_resolved.specs.Kinds.{Objects, Workspaces, Kind, OfWhole, OfTruth, OfCharacter, OfSet, OfPointer, base_of, numbers, within, is_literal, scalar_of, ordinal_of, Shape, Word, Row, Address, Opened, Scope, with_held, MayCall, result_of, result_here, parameters_of, parameters_at, shape_at, is_there, element_of, count_of, along}
+use Rattle.lil_resolved.specs.Resolved.{Named, variable_at, Designator, Variable, Handed, Along, Held, Field, Element, Follow, Function, Abs, Cap, Chr, Odd, Ord, Val, Expression, Constant, Taken, One, Two, Short, Apply, With, WithSpan, Invoke, High, Label, Argument, ByValue, OfPlace, OfAll, OfArray, OfText, OfOpened, Arguments, NoMore, Also, Statement, Assign, Copy, Text, Change, Member, New, Allocate, Request, If, Case, While, Repeat, Loop, Exit, Halt, Return, Answer, Call, For, Inside, Statements, Empty, Then, Arms, NoElse, Else, Arm, Procedure, Resolved, procedure_by, scope_in, kind_of, right_kind, counted_as, shape_of}
 use Rattle.lil_resolved.specs.Sizes.{place_depth, depth}
 
 -- an operator takes operands of this kind, and IN a left one
@@ -62,24 +62,17 @@ abbrev pub parameter_of : Scope → Argument → Shape
 parameter_of ts (ByValue k e) = Word k
 parameter_of ts (OfPlace d) = Address (shape_of ts d)
 parameter_of ts (OfAll d) = shape_of ts d
-parameter_of ts (OfArray d high) = Opened (Word OfCharacter)
-parameter_of ts (OfText cs) = Opened (Word OfCharacter)
+parameter_of ts (OfArray copied d high) = Opened copied (element_of (shape_of ts d))
+parameter_of ts (OfText cs) = Opened true (Word OfCharacter)
+parameter_of ts (OfOpened copied n x) = Opened copied (along (shape_at (parameters_at ts n) x))
 
 abbrev pub parameters_given : Scope → Arguments → List Shape
 parameters_given ts NoMore = []
 parameters_given ts (Also a given) = parameter_of ts a ∷ parameters_given ts given
 
--- an argument that has one word on the expression stack, as those of calls do
-abbrev pub IsSingle : Argument → Type 0
-IsSingle (ByValue k e) = Unit {0}
-IsSingle (OfPlace d) = Unit {0}
-IsSingle (OfAll d) = Unit {0}
-IsSingle (OfArray d high) = ⊥
-IsSingle (OfText cs) = ⊥
-
-abbrev pub AreSingle : Arguments → Type 0
-AreSingle NoMore = Unit {0}
-AreSingle (Also a given) = IsSingle a × AreSingle given
+-- a parameter is an open array
+abbrev pub IsSoundOpened : Scope → (n x : ℕ) → Type 0
+IsSoundOpened ts n x = (copied : Bool) × (t : Shape) × (slice_get (parameters_at ts n) x ≡ Some (Opened copied t)) × (is_there t ≡ true)
 
 -- what a string holds are characters
 abbrev pub is_character : ℕ → Bool
@@ -94,6 +87,7 @@ abbrev mutual
   pub IsSoundPlace : Scope → Designator → Type 0
   IsSoundPlace ts (Variable v) = Unit {0}
   IsSoundPlace ts (Handed n x) = (t : Shape) × (slice_get (parameters_at ts n) x ≡ Some (Address t)) × (is_there t ≡ true)
+  IsSoundPlace ts (Along n x e) = IsSoundOpened ts n x × (takes_value (OfWhole Cardinal) (kind_of e) ≡ true) × IsSoundExpression ts e
   IsSoundPlace ts (Held w) = (t : Shape) × (slice_get ts.held w ≡ Some t) × (is_there t ≡ true)
   IsSoundPlace ts (Field d i) = IsSoundPlace ts d
   IsSoundPlace ts (Element d k e) = (count_of (shape_of ts d) ≡ numbers k) × (takes_value k (kind_of e) ≡ true) × IsSoundPlace ts d × IsSoundExpression ts e
@@ -110,14 +104,17 @@ abbrev mutual
   IsSoundExpression ts (WithSpan s k a b) =
       (kind_of s ≡ OfSet) × IsSoundExpression ts s × (is_element k ≡ true) × (takes_value k (kind_of a) ≡ true) × (takes_value k (kind_of b) ≡ true) × IsSoundExpression ts a × IsSoundExpression ts b
   IsSoundExpression ts (Invoke p n k given) =
-      MayCall ts p n × (result_of (procedure_by ts.procedures p) ≡ Some k) × (parameters_of (procedure_by ts.procedures p) ≡ parameters_given ts given) × AreSoundArguments ts given × AreSingle given
+      MayCall ts p n × (result_of (procedure_by ts.procedures p) ≡ Some k) × (parameters_of (procedure_by ts.procedures p) ≡ parameters_given ts given) × AreSoundArguments ts given
+  IsSoundExpression ts (High n x) = IsSoundOpened ts n x
 
   pub IsSoundArgument : Scope → Argument → Type 0
   IsSoundArgument ts (ByValue k e) = (stores_value k (kind_of e) ≡ true) × (depth e ≤ 13) × IsSoundExpression ts e
   IsSoundArgument ts (OfPlace d) = (is_there (shape_of ts d) ≡ true) × (place_depth d ≤ 13) × IsSoundPlace ts d
   IsSoundArgument ts (OfAll d) = (is_there (shape_of ts d) ≡ true) × (place_depth d ≤ 13) × IsSoundPlace ts d
-  IsSoundArgument ts (OfArray d high) = (shape_of ts d ≡ Row (suc high) (Word OfCharacter)) × (place_depth d ≤ 13) × IsSoundPlace ts d
+  IsSoundArgument ts (OfArray copied d high) =
+      (shape_of ts d ≡ Row (suc high) (element_of (shape_of ts d))) × (is_there (element_of (shape_of ts d)) ≡ true) × (high ≤ 65535) × (place_depth d ≤ 13) × IsSoundPlace ts d
   IsSoundArgument ts (OfText cs) = is_text cs ≡ true
+  IsSoundArgument ts (OfOpened copied n x) = IsSoundOpened ts n x
 
   pub AreSoundArguments : Scope → Arguments → Type 0
   AreSoundArguments ts NoMore = Unit {0}
@@ -200,7 +197,7 @@ pub record IsStep (z : ℤ) : Type 0 where
 -- what the parameters of a request hold
 abbrev pub request_parameters : request.Request → List Shape
 request_parameters r.Write = Word OfCharacter ∷ []
-request_parameters r.WriteString = Opened (Word OfCharacter) ∷ []
+request_parameters r.WriteString = Opened true (Word OfCharacter) ∷ []
 request_parameters r.WriteLn = []
 request_parameters r.WriteCard = Word (OfWhole Cardinal) ∷ Word (OfWhole Cardinal) ∷ []
 request_parameters r.WriteInt = Word (OfWhole Integer) ∷ Word (OfWhole Cardinal) ∷ []
@@ -212,8 +209,9 @@ abbrev pub IsServed : Argument → Type 0
 IsServed (ByValue k e) = Unit {0}
 IsServed (OfPlace d) = ⊥
 IsServed (OfAll d) = ⊥
-IsServed (OfArray d high) = Unit {0}
+IsServed (OfArray copied d high) = Unit {0}
 IsServed (OfText cs) = Unit {0}
+IsServed (OfOpened copied n x) = Unit {0}
 
 abbrev pub AreServed : Arguments → Type 0
 AreServed NoMore = Unit {0}
@@ -244,7 +242,7 @@ abbrev mutual
   IsSoundStatement ts looping Halt = Unit {0}
   IsSoundStatement ts looping Return = result_here ts ≡ None
   IsSoundStatement ts looping (Answer k e) = (result_here ts ≡ Some k) × IsSoundStored ts e k
-  IsSoundStatement ts looping (Call p n given) = MayCall ts p n × (result_of (procedure_by ts.procedures p) ≡ None) × IsGiven ts (parameters_of (procedure_by ts.procedures p)) given × AreSingle given
+  IsSoundStatement ts looping (Call p n given) = MayCall ts p n × (result_of (procedure_by ts.procedures p) ≡ None) × IsGiven ts (parameters_of (procedure_by ts.procedures p)) given
   IsSoundStatement ts looping (For v k a b step body) = IsSoundVariable ts v k × IsSoundValue ts a k × IsSoundWhole ts b (base_of k) × IsStep step × IsSoundBody ts looping body
   IsSoundStatement ts looping (Inside d body) = IsSoundHeld ts d × IsSoundBody (with_held ts (shape_of ts d)) looping body
 

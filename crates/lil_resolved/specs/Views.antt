@@ -1,13 +1,13 @@
 -- The views of the program's trees: which resolved module each one is, form by form.
-use Rattle.std.proofs.Common.{◌≡◌, ℕ, ℤ, List, map, Option, None, Some, refl, sym, ap, ◌∙◌}
+use Rattle.std.proofs.Common.{◌≡◌, ℕ, ℤ, List, map, Option, None, Some, sym, ap, ◌∙◌}
 use Rattle.lil_base.specs.{declared.operator.{OneOp.OneOp, TwoOp.{TwoOp, TheVariants.{Equal, Unequal, Less, AtMost, Greater, AtLeast, In, Plus, Minus, Or, Times, Slash, Div, Mod, And}}}, Words.{Cardinal, Integer}}
-use Rattle.lil_resolved.specs.declared.resolved.{RExpr.RExpr, RArgument.TheOpen.{RExpr-F, RMember-F, RSelector-F, ROperation-F, RArgument-F, RPlace-F}}
-use Rattle.lil_resolved.specs.declared.resolved.RArgument.TheFolds.{map-RExpr, map-RArgument, map-RSelector, map-RMember, fold-roll-RExpr, fold-roll-RMember, fold-roll-RSelector, fold_out-RSelector, fold_out-RMember, fold_out-ROperation, fold_out-RPlace, fold-RExpr, fold-RSelector, fold-RMember, fold-ROperation, fold-RArgument, fold-roll-RArgument, fold-RPlace}
-use Rattle.lil_resolved.specs.declared.resolved.{RArgument.TheViews.{roll-RExpr, roll-RMember, roll-RSelector, roll-RArgument}, ROperation.{ROperation, out-ROperation}, RPlace.{RPlace, out-RPlace}, RSelector.{RSelector, out-RSelector}, RMember.{RMember, out-RMember}, Membership.Membership, Allocation.Allocation, RKind.RKind}
-use Rattle.lil_resolved.specs.{Kinds.{Kind, Objects, Workspaces, OfWhole, OfTruth, OfCharacter, OfEnumeration, OfSet, OfPointer, OfRange, compared_as, scalar_of, SetOf, Shape, Absent, Word, Row, Address, all_words, offsets_from, shape_at, fields_of, words}, declared.resolved.RStmt.{RStmt, TheOpen.{RStmt-F, RArm-F, RGuard-F}}}
+use Rattle.lil_resolved.specs.declared.resolved.{RExpr.RExpr, RArgument.TheOpen.{RExpr-F, RMember-F, RSelector-F, ROperation-F, RArgument-F, RPlace-F, RRoot-F}}
+use Rattle.lil_resolved.specs.declared.resolved.RArgument.TheFolds.{map-RExpr, map-RArgument, map-RSelector, map-RMember, fold-roll-RExpr, fold-roll-RMember, fold-roll-RSelector, fold_out-RSelector, fold_out-RMember, fold_out-ROperation, fold_out-RPlace, fold-RExpr, fold-RSelector, fold-RMember, fold-ROperation, fold-RArgument, fold-roll-RArgument, fold-RPlace, fold-RRoot, fold-roll-RRoot, map-RRoot}
+use Rattle.lil_resolved.specs.declared.resolved.{RArgument.TheViews.{roll-RExpr, roll-RMember, roll-RSelector, roll-RArgument, roll-RRoot}, ROperation.{ROperation, out-ROperation}, RPlace.{RPlace, out-RPlace}, RSelector.{RSelector, out-RSelector}, RMember.{RMember, out-RMember}, Membership.Membership, Allocation.Allocation, RKind.RKind}
+use Rattle.lil_resolved.specs.{Kinds.{Kind, Objects, Workspaces, OfWhole, OfTruth, OfCharacter, OfEnumeration, OfSet, OfPointer, OfRange, compared_as, scalar_of, SetOf, Shape, Absent, Word, Row, Address, Opened, all_words, offsets_from, shape_at, fields_of, words}, declared.resolved.RStmt.{RStmt, TheOpen.{RStmt-F, RArm-F, RGuard-F}}}
 use Rattle.lil_resolved.specs.declared.resolved.{RStmt.{TheFolds.{map-RStmt, fold-roll-RStmt, fold-roll-RArm, fold-roll-RGuard, fold-RStmt, fold-RArm, fold-RGuard}, TheViews.roll-RStmt}, RGuard.RGuard, RArm.RArm, RBase.RBase, RVariable.RVariable, RNamed.RNamed, RFunction.RFunction, Direction.Direction, RArgument.RArgument}
-use Rattle.lil_resolved.specs.Resolved.{Named, OfModule, OfLevel, Designator, Field, Element, Follow, Expression, Constant, Taken, Apply, With, WithSpan, Assign, Copy, Text, Change, Member, New, Allocate, Request, If, Case, While, Repeat, Loop, Exit, Halt, Return, Answer, Call, For, Inside, Statements, Empty, Then, Arms, Arm, kind_of, Variable, Handed, Held, Function, Abs, Cap, Chr, Odd, Ord, Val, One, Two, Short, Argument, ByValue, OfPlace, OfAll, OfArray, OfText, Arguments, given_in, Invoke, Label, NoElse, Else, Procedure, Resolved}
-use Rattle.lil_resolved.specs.{Members.no_members, declared.{resolved.{RRange.RRange, RRoot.RRoot, RPassing.RPassing, RDeclared.RDeclared, RLabel.RLabel, RHeading.RHeading, RProcedure.RProcedure, RModule.RModule}, shapes.{RField.RField, RShape.RShape}}}
+use Rattle.lil_resolved.specs.Resolved.{Named, OfModule, OfLevel, Designator, Field, Element, Follow, Expression, Constant, Taken, Apply, With, WithSpan, Assign, Copy, Text, Change, Member, New, Allocate, Request, If, Case, While, Repeat, Loop, Exit, Halt, Return, Answer, Call, For, Inside, Statements, Empty, Then, Arms, Arm, kind_of, Variable, Handed, Along, Held, Function, Abs, Cap, Chr, Odd, Ord, Val, One, Two, Short, Argument, ByValue, OfPlace, OfAll, OfArray, OfText, OfOpened, Arguments, given_in, Invoke, High, Label, NoElse, Else, Procedure, Resolved}
+use Rattle.lil_resolved.specs.{Members.no_members, declared.{resolved.{RRange.RRange, RRoot.RRoot, RPassing.RPassing, ROpening.ROpening, RDeclared.RDeclared, RLabel.RLabel, RHeading.RHeading, RProcedure.RProcedure, RModule.RModule}, shapes.{RField.RField, RShape.RShape}}}
 use Rattle.lil_resolved.specs.declared.resolved.RExpr.TheVariants as e
 use Rattle.lil_resolved.specs.declared.resolved.RArgument.TheOpen as x
 use Rattle.lil_resolved.specs.declared.resolved.RSelector.TheVariants as l
@@ -25,6 +25,7 @@ use Rattle.lil_resolved.specs.declared.resolved.RRoot.TheVariants as t
 use Rattle.lil_resolved.specs.declared.resolved.RNamed.TheVariants as n
 use Rattle.lil_resolved.specs.declared.resolved.RArgument.TheVariants as g
 use Rattle.lil_resolved.specs.declared.resolved.RPassing.TheVariants as h
+use Rattle.lil_resolved.specs.declared.resolved.ROpening.TheVariants as v
 use Rattle.lil_resolved.specs.declared.shapes.RShape.TheVariants as r
 
 -- ---- kinds, functions and requests
@@ -71,6 +72,11 @@ abbrev pub is_back : Allocation → Bool
 is_back w.Takes = false
 is_back w.GivesBack = true
 
+-- whether an open array is copied
+abbrev pub is_copied : ROpening → Bool
+is_copied v.Copied = true
+is_copied v.Lent = false
+
 abbrev pub is_down : Direction → Bool
 is_down d.Up = false
 is_down d.Down = true
@@ -116,7 +122,7 @@ abbrev pub empty_set : Expression
 empty_set = Constant OfSet (SetOf no_members)
 
 -- what an expression, a selector, an element, an operation and a place are, where their parts are known
-abbrev pub expression_layer : RExpr-F Argument Expression (Kind → Expression → Expression) (Designator → Designator) (Expression → Expression) Designator → Expression
+abbrev pub expression_layer : RExpr-F Argument Expression (Kind → Expression → Expression) Designator (Designator → Designator) (Expression → Expression) Designator → Expression
 expression_layer (x.Constant base z) = Constant (base_view base) (scalar_of (base_view base) z)
 expression_layer (x.Taken d k) = Taken d (kind_view k)
 expression_layer (x.One o a) = one_of o a
@@ -124,51 +130,57 @@ expression_layer (x.Chain a os) = chained a os
 expression_layer (x.Apply f a) = Apply (function_of f (kind_of a)) a
 expression_layer (x.Set k es) = with_members (kind_view k) empty_set es
 expression_layer (x.Invoke p n k given) = Invoke p n (kind_view k) (given_in given)
+expression_layer (x.High n i) = High n i
 
-abbrev pub selector_layer : RSelector-F Argument Expression (Kind → Expression → Expression) (Designator → Designator) (Expression → Expression) Designator → Designator → Designator
+abbrev pub selector_layer : RSelector-F Argument Expression (Kind → Expression → Expression) Designator (Designator → Designator) (Expression → Expression) Designator → Designator → Designator
 selector_layer (x.Field i) d = Field d i
 selector_layer (x.Index k e) d = Element d (kind_view k) e
 selector_layer (x.Follow n) d = Follow d n
 
-abbrev pub member_layer : RMember-F Argument Expression (Kind → Expression → Expression) (Designator → Designator) (Expression → Expression) Designator → Kind → Expression → Expression
+abbrev pub member_layer : RMember-F Argument Expression (Kind → Expression → Expression) Designator (Designator → Designator) (Expression → Expression) Designator → Kind → Expression → Expression
 member_layer (x.Single a) k s = With s k a
 member_layer (x.Span a b) k s = WithSpan s k a b
 
-abbrev pub root_view : RRoot → Designator
-root_view (t.Variable v) = Variable (named_view v)
-root_view (t.Handed n x) = Handed n x
-root_view (t.Held w) = Held w
+abbrev pub root_layer : RRoot-F Argument Expression (Kind → Expression → Expression) Designator (Designator → Designator) (Expression → Expression) Designator → Designator
+root_layer (x.Variable v) = Variable (named_view v)
+root_layer (x.Handed n i) = Handed n i
+root_layer (x.Along n i e) = Along n i e
+root_layer (x.Held w) = Held w
 
-abbrev pub operation_layer : ROperation-F Argument Expression (Kind → Expression → Expression) (Designator → Designator) (Expression → Expression) Designator → Expression → Expression
+abbrev pub operation_layer : ROperation-F Argument Expression (Kind → Expression → Expression) Designator (Designator → Designator) (Expression → Expression) Designator → Expression → Expression
 operation_layer o a = two_of o.operator a o.operand
 
-abbrev pub place_layer : RPlace-F Argument Expression (Kind → Expression → Expression) (Designator → Designator) (Expression → Expression) Designator → Designator
-place_layer p = selected (root_view p.root) p.selectors
+abbrev pub place_layer : RPlace-F Argument Expression (Kind → Expression → Expression) Designator (Designator → Designator) (Expression → Expression) Designator → Designator
+place_layer p = selected p.root p.selectors
 
-abbrev pub argument_layer : RArgument-F Argument Expression (Kind → Expression → Expression) (Designator → Designator) (Expression → Expression) Designator → Argument
+abbrev pub argument_layer : RArgument-F Argument Expression (Kind → Expression → Expression) Designator (Designator → Designator) (Expression → Expression) Designator → Argument
 argument_layer (x.Value k e) = ByValue (kind_view k) e
 argument_layer (x.Place p) = OfPlace p
 argument_layer (x.All p) = OfAll p
-argument_layer (x.Array p high) = OfArray p high
+argument_layer (x.Array o p high) = OfArray (is_copied o) p high
 argument_layer (x.Text cs) = OfText cs
+argument_layer (x.Opened o n i) = OfOpened (is_copied o) n i
 
 abbrev pub expression_of : RExpr → Expression
-expression_of = fold-RExpr Argument Expression (Kind → Expression → Expression) (Designator → Designator) (Expression → Expression) Designator argument_layer expression_layer member_layer selector_layer operation_layer place_layer
+expression_of = fold-RExpr Argument Expression (Kind → Expression → Expression) Designator (Designator → Designator) (Expression → Expression) Designator argument_layer expression_layer member_layer root_layer selector_layer operation_layer place_layer
 
 abbrev pub selector_of : RSelector → Designator → Designator
-selector_of = fold-RSelector Argument Expression (Kind → Expression → Expression) (Designator → Designator) (Expression → Expression) Designator argument_layer expression_layer member_layer selector_layer operation_layer place_layer
+selector_of = fold-RSelector Argument Expression (Kind → Expression → Expression) Designator (Designator → Designator) (Expression → Expression) Designator argument_layer expression_layer member_layer root_layer selector_layer operation_layer place_layer
 
 abbrev pub member_of : RMember → Kind → Expression → Expression
-member_of = fold-RMember Argument Expression (Kind → Expression → Expression) (Designator → Designator) (Expression → Expression) Designator argument_layer expression_layer member_layer selector_layer operation_layer place_layer
+member_of = fold-RMember Argument Expression (Kind → Expression → Expression) Designator (Designator → Designator) (Expression → Expression) Designator argument_layer expression_layer member_layer root_layer selector_layer operation_layer place_layer
 
 abbrev pub operation_of : ROperation → Expression → Expression
-operation_of = fold-ROperation Argument Expression (Kind → Expression → Expression) (Designator → Designator) (Expression → Expression) Designator argument_layer expression_layer member_layer selector_layer operation_layer place_layer
+operation_of = fold-ROperation Argument Expression (Kind → Expression → Expression) Designator (Designator → Designator) (Expression → Expression) Designator argument_layer expression_layer member_layer root_layer selector_layer operation_layer place_layer
 
 abbrev pub place_of : RPlace → Designator
-place_of = fold-RPlace Argument Expression (Kind → Expression → Expression) (Designator → Designator) (Expression → Expression) Designator argument_layer expression_layer member_layer selector_layer operation_layer place_layer
+place_of = fold-RPlace Argument Expression (Kind → Expression → Expression) Designator (Designator → Designator) (Expression → Expression) Designator argument_layer expression_layer member_layer root_layer selector_layer operation_layer place_layer
+
+abbrev pub root_of : RRoot → Designator
+root_of = fold-RRoot Argument Expression (Kind → Expression → Expression) Designator (Designator → Designator) (Expression → Expression) Designator argument_layer expression_layer member_layer root_layer selector_layer operation_layer place_layer
 
 abbrev pub argument_of : RArgument → Argument
-argument_of = fold-RArgument Argument Expression (Kind → Expression → Expression) (Designator → Designator) (Expression → Expression) Designator argument_layer expression_layer member_layer selector_layer operation_layer place_layer
+argument_of = fold-RArgument Argument Expression (Kind → Expression → Expression) Designator (Designator → Designator) (Expression → Expression) Designator argument_layer expression_layer member_layer root_layer selector_layer operation_layer place_layer
 
 abbrev pub arguments_of : List RArgument → Arguments
 arguments_of given = given_in (map argument_of given)
@@ -295,10 +307,11 @@ name_of v = v.name
 abbrev pub offset_of : RDeclared → ℕ
 offset_of v = v.offset
 
--- what a variable holds: what lies in it, or for a VAR parameter the address of what was handed in
+-- what a variable holds: what lies in it, for a VAR parameter the address of what was handed in, or for an open array that and its last number
 abbrev pub held_by : RPassing → Shape → Shape
 held_by h.ByValue t = t
 held_by h.ByPlace t = Address t
+held_by (h.Open o) t = Opened (is_copied o) t
 
 abbrev pub shape_declared : List RShape → RDeclared → Shape
 shape_declared ts v = held_by v.passing (shape_at (shapes_of ts) v.shape)
@@ -330,8 +343,8 @@ pub record IsMeasured (m : RModule) : Type 0 where
 -- ---- what each form of expression, an operation, a place, each form of selector and of statement, a guard and an arm are
 
 -- a layer's value comes from the values of its parts
-rolled_value : (y : RExpr-F RArgument RExpr RMember RSelector ROperation RPlace) → expression_of (roll-RExpr y) ≡ expression_layer (map-RExpr RArgument RExpr RMember RSelector ROperation RPlace Argument Expression (Kind → Expression → Expression) (Designator → Designator) (Expression → Expression) Designator argument_of expression_of member_of selector_of operation_of place_of y)
-rolled_value = fold-roll-RExpr Argument Expression (Kind → Expression → Expression) (Designator → Designator) (Expression → Expression) Designator argument_layer expression_layer member_layer selector_layer operation_layer place_layer
+rolled_value : (y : RExpr-F RArgument RExpr RMember RRoot RSelector ROperation RPlace) → expression_of (roll-RExpr y) ≡ expression_layer (map-RExpr RArgument RExpr RMember RRoot RSelector ROperation RPlace Argument Expression (Kind → Expression → Expression) Designator (Designator → Designator) (Expression → Expression) Designator argument_of expression_of member_of root_of selector_of operation_of place_of y)
+rolled_value = fold-roll-RExpr Argument Expression (Kind → Expression → Expression) Designator (Designator → Designator) (Expression → Expression) Designator argument_layer expression_layer member_layer root_layer selector_layer operation_layer place_layer
 
 pub constant_is : (b : RBase) (z : ℤ) → expression_of (e.Constant b z) ≡ Constant (base_view b) (scalar_of (base_view b) z)
 constant_is b z = ap expression_of (sym (e.rolls-Constant b z)) ∙ rolled_value (x.Constant b z)
@@ -340,8 +353,8 @@ pub invoke_is : (p n : ℕ) (k : RKind) (given : List RArgument) → expression_
 invoke_is p n k given = ap expression_of (sym (e.rolls-Invoke p n k given)) ∙ rolled_value (x.Invoke p n k given)
 
 -- arguments
-rolled_argument : (y : RArgument-F RArgument RExpr RMember RSelector ROperation RPlace) → argument_of (roll-RArgument y) ≡ argument_layer (map-RArgument RArgument RExpr RMember RSelector ROperation RPlace Argument Expression (Kind → Expression → Expression) (Designator → Designator) (Expression → Expression) Designator argument_of expression_of member_of selector_of operation_of place_of y)
-rolled_argument = fold-roll-RArgument Argument Expression (Kind → Expression → Expression) (Designator → Designator) (Expression → Expression) Designator argument_layer expression_layer member_layer selector_layer operation_layer place_layer
+rolled_argument : (y : RArgument-F RArgument RExpr RMember RRoot RSelector ROperation RPlace) → argument_of (roll-RArgument y) ≡ argument_layer (map-RArgument RArgument RExpr RMember RRoot RSelector ROperation RPlace Argument Expression (Kind → Expression → Expression) Designator (Designator → Designator) (Expression → Expression) Designator argument_of expression_of member_of root_of selector_of operation_of place_of y)
+rolled_argument = fold-roll-RArgument Argument Expression (Kind → Expression → Expression) Designator (Designator → Designator) (Expression → Expression) Designator argument_layer expression_layer member_layer root_layer selector_layer operation_layer place_layer
 
 pub by_value_is : (k : RKind) (a : RExpr) → argument_of (g.Value k a) ≡ ByValue (kind_view k) (expression_of a)
 by_value_is k a = ap argument_of (sym (g.rolls-Value k a)) ∙ rolled_argument (x.Value k a)
@@ -352,11 +365,17 @@ of_place_is p = ap argument_of (sym (g.rolls-Place p)) ∙ rolled_argument (x.Pl
 pub of_all_is : (p : RPlace) → argument_of (g.All p) ≡ OfAll (place_of p)
 of_all_is p = ap argument_of (sym (g.rolls-All p)) ∙ rolled_argument (x.All p)
 
-pub of_array_is : (p : RPlace) (high : ℕ) → argument_of (g.Array p high) ≡ OfArray (place_of p) high
-of_array_is p high = ap argument_of (sym (g.rolls-Array p high)) ∙ rolled_argument (x.Array p high)
+pub of_array_is : (o : ROpening) (p : RPlace) (high : ℕ) → argument_of (g.Array o p high) ≡ OfArray (is_copied o) (place_of p) high
+of_array_is o p high = ap argument_of (sym (g.rolls-Array o p high)) ∙ rolled_argument (x.Array o p high)
 
 pub of_text_is : (cs : List ℕ) → argument_of (g.Text cs) ≡ OfText cs
 of_text_is cs = ap argument_of (sym (g.rolls-Text cs)) ∙ rolled_argument (x.Text cs)
+
+pub of_opened_is : (o : ROpening) (n i : ℕ) → argument_of (g.Opened o n i) ≡ OfOpened (is_copied o) n i
+of_opened_is o n i = ap argument_of (sym (g.rolls-Opened o n i)) ∙ rolled_argument (x.Opened o n i)
+
+pub high_is : (n i : ℕ) → expression_of (e.High n i) ≡ High n i
+high_is n i = ap expression_of (sym (e.rolls-High n i)) ∙ rolled_value (x.High n i)
 
 pub taken_is : (p : RPlace) (k : RKind) → expression_of (e.Taken p k) ≡ Taken (place_of p) (kind_view k)
 taken_is p k = ap expression_of (sym (e.rolls-Taken p k)) ∙ rolled_value (x.Taken p k)
@@ -374,26 +393,42 @@ pub set_is : (k : RKind) (ms : List RMember) → expression_of (e.Set k ms) ≡ 
 set_is k ms = ap expression_of (sym (e.rolls-Set k ms)) ∙ rolled_value (x.Set k ms)
 
 pub operation_is : (o : ROperation) (a : Expression) → operation_of o a ≡ two_of (out-ROperation o).operator a (expression_of (out-ROperation o).operand)
-operation_is o a = ap (λ (f : Expression → Expression). f a) (fold_out-ROperation Argument Expression (Kind → Expression → Expression) (Designator → Designator) (Expression → Expression) Designator argument_layer expression_layer member_layer selector_layer operation_layer place_layer o)
+operation_is o a = ap (λ (f : Expression → Expression). f a) (fold_out-ROperation Argument Expression (Kind → Expression → Expression) Designator (Designator → Designator) (Expression → Expression) Designator argument_layer expression_layer member_layer root_layer selector_layer operation_layer place_layer o)
 
-pub place_is : (p : RPlace) → place_of p ≡ selected (root_view (out-RPlace p).root) (map selector_of (out-RPlace p).selectors)
-place_is = fold_out-RPlace Argument Expression (Kind → Expression → Expression) (Designator → Designator) (Expression → Expression) Designator argument_layer expression_layer member_layer selector_layer operation_layer place_layer
+pub place_is : (p : RPlace) → place_of p ≡ selected (root_of (out-RPlace p).root) (map selector_of (out-RPlace p).selectors)
+place_is = fold_out-RPlace Argument Expression (Kind → Expression → Expression) Designator (Designator → Designator) (Expression → Expression) Designator argument_layer expression_layer member_layer root_layer selector_layer operation_layer place_layer
+
+-- a layer's root comes from its parts
+rolled_root : (y : RRoot-F RArgument RExpr RMember RRoot RSelector ROperation RPlace) → root_of (roll-RRoot y) ≡ root_layer (map-RRoot RArgument RExpr RMember RRoot RSelector ROperation RPlace Argument Expression (Kind → Expression → Expression) Designator (Designator → Designator) (Expression → Expression) Designator argument_of expression_of member_of root_of selector_of operation_of place_of y)
+rolled_root = fold-roll-RRoot Argument Expression (Kind → Expression → Expression) Designator (Designator → Designator) (Expression → Expression) Designator argument_layer expression_layer member_layer root_layer selector_layer operation_layer place_layer
+
+pub variable_is : (v : RNamed) → root_of (t.Variable v) ≡ Variable (named_view v)
+variable_is v = ap root_of (sym (t.rolls-Variable v)) ∙ rolled_root (x.Variable v)
+
+pub handed_is : (n i : ℕ) → root_of (t.Handed n i) ≡ Handed n i
+handed_is n i = ap root_of (sym (t.rolls-Handed n i)) ∙ rolled_root (x.Handed n i)
+
+pub along_is : (n i : ℕ) (a : RExpr) → root_of (t.Along n i a) ≡ Along n i (expression_of a)
+along_is n i a = ap root_of (sym (t.rolls-Along n i a)) ∙ rolled_root (x.Along n i a)
+
+pub held_is : (w : ℕ) → root_of (t.Held w) ≡ Held w
+held_is w = ap root_of (sym (t.rolls-Held w)) ∙ rolled_root (x.Held w)
 
 -- a layer's selector comes from those of its parts
-rolled_selector : (y : RSelector-F RArgument RExpr RMember RSelector ROperation RPlace) → selector_of (roll-RSelector y) ≡ selector_layer (map-RSelector RArgument RExpr RMember RSelector ROperation RPlace Argument Expression (Kind → Expression → Expression) (Designator → Designator) (Expression → Expression) Designator argument_of expression_of member_of selector_of operation_of place_of y)
-rolled_selector = fold-roll-RSelector Argument Expression (Kind → Expression → Expression) (Designator → Designator) (Expression → Expression) Designator argument_layer expression_layer member_layer selector_layer operation_layer place_layer
+rolled_selector : (y : RSelector-F RArgument RExpr RMember RRoot RSelector ROperation RPlace) → selector_of (roll-RSelector y) ≡ selector_layer (map-RSelector RArgument RExpr RMember RRoot RSelector ROperation RPlace Argument Expression (Kind → Expression → Expression) Designator (Designator → Designator) (Expression → Expression) Designator argument_of expression_of member_of root_of selector_of operation_of place_of y)
+rolled_selector = fold-roll-RSelector Argument Expression (Kind → Expression → Expression) Designator (Designator → Designator) (Expression → Expression) Designator argument_layer expression_layer member_layer root_layer selector_layer operation_layer place_layer
 
 -- a selector by its form
-pub selector_is : (s : RSelector) (d : Designator) → selector_of s d ≡ selector_layer (map-RSelector RArgument RExpr RMember RSelector ROperation RPlace Argument Expression (Kind → Expression → Expression) (Designator → Designator) (Expression → Expression) Designator argument_of expression_of member_of selector_of operation_of place_of (out-RSelector s)) d
-selector_is s d = ap (λ (f : Designator → Designator). f d) (fold_out-RSelector Argument Expression (Kind → Expression → Expression) (Designator → Designator) (Expression → Expression) Designator argument_layer expression_layer member_layer selector_layer operation_layer place_layer s)
+pub selector_is : (s : RSelector) (d : Designator) → selector_of s d ≡ selector_layer (map-RSelector RArgument RExpr RMember RRoot RSelector ROperation RPlace Argument Expression (Kind → Expression → Expression) Designator (Designator → Designator) (Expression → Expression) Designator argument_of expression_of member_of root_of selector_of operation_of place_of (out-RSelector s)) d
+selector_is s d = ap (λ (f : Designator → Designator). f d) (fold_out-RSelector Argument Expression (Kind → Expression → Expression) Designator (Designator → Designator) (Expression → Expression) Designator argument_layer expression_layer member_layer root_layer selector_layer operation_layer place_layer s)
 
 -- a member by its form
-pub member_is : (m : RMember) (k : Kind) (s : Expression) → member_of m k s ≡ member_layer (map-RMember RArgument RExpr RMember RSelector ROperation RPlace Argument Expression (Kind → Expression → Expression) (Designator → Designator) (Expression → Expression) Designator argument_of expression_of member_of selector_of operation_of place_of (out-RMember m)) k s
-member_is m k s = ap (λ (f : Kind → Expression → Expression). f k s) (fold_out-RMember Argument Expression (Kind → Expression → Expression) (Designator → Designator) (Expression → Expression) Designator argument_layer expression_layer member_layer selector_layer operation_layer place_layer m)
+pub member_is : (m : RMember) (k : Kind) (s : Expression) → member_of m k s ≡ member_layer (map-RMember RArgument RExpr RMember RRoot RSelector ROperation RPlace Argument Expression (Kind → Expression → Expression) Designator (Designator → Designator) (Expression → Expression) Designator argument_of expression_of member_of root_of selector_of operation_of place_of (out-RMember m)) k s
+member_is m k s = ap (λ (f : Kind → Expression → Expression). f k s) (fold_out-RMember Argument Expression (Kind → Expression → Expression) Designator (Designator → Designator) (Expression → Expression) Designator argument_layer expression_layer member_layer root_layer selector_layer operation_layer place_layer m)
 
 -- a layer's member comes from its parts
-rolled_member : (y : RMember-F RArgument RExpr RMember RSelector ROperation RPlace) → member_of (roll-RMember y) ≡ member_layer (map-RMember RArgument RExpr RMember RSelector ROperation RPlace Argument Expression (Kind → Expression → Expression) (Designator → Designator) (Expression → Expression) Designator argument_of expression_of member_of selector_of operation_of place_of y)
-rolled_member = fold-roll-RMember Argument Expression (Kind → Expression → Expression) (Designator → Designator) (Expression → Expression) Designator argument_layer expression_layer member_layer selector_layer operation_layer place_layer
+rolled_member : (y : RMember-F RArgument RExpr RMember RRoot RSelector ROperation RPlace) → member_of (roll-RMember y) ≡ member_layer (map-RMember RArgument RExpr RMember RRoot RSelector ROperation RPlace Argument Expression (Kind → Expression → Expression) Designator (Designator → Designator) (Expression → Expression) Designator argument_of expression_of member_of root_of selector_of operation_of place_of y)
+rolled_member = fold-roll-RMember Argument Expression (Kind → Expression → Expression) Designator (Designator → Designator) (Expression → Expression) Designator argument_layer expression_layer member_layer root_layer selector_layer operation_layer place_layer
 
 pub single_is : (a : RExpr) → member_of (c.Single a) ≡ (λ k s. With s k (expression_of a))
 single_is a = ap member_of (sym (c.rolls-Single a)) ∙ rolled_member (x.Single a)

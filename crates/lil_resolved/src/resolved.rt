@@ -84,7 +84,8 @@ pub enum Allocation {
 /// number. That of a set is the sum of 2 to the power of each number in it, and that of NIL is 0. A chain is its first operand, and then each
 /// operation in its order on what stands before it. A value that stands at a place is of the place's kind. A set has its
 /// members in order, numbers of a kind. A call of a function has its procedure's number, from 1, how many levels out that is
-/// declared, the kind of its value, and its arguments.
+/// declared, the kind of its value, and its arguments. HIGH has an open array, by how many levels out its procedure is and its
+/// number among that one's variables.
 #[cycle(value)]
 #[derive(Drop)]
 pub enum RExpr {
@@ -95,6 +96,7 @@ pub enum RExpr {
     Apply(RFunction, Boxed<RExpr>),
     Set(RKind, Items<RMember>),
     Invoke(u8, u8, RKind, Items<RArgument>),
+    High(u8, usize),
 }
 
 /// What an operator does to the value before it: the operator, and its right operand.
@@ -106,11 +108,14 @@ pub struct ROperation {
 }
 
 /// With what a place begins: a variable, what was handed in for a VAR parameter, by how many levels out its procedure is and
-/// its number among that one's variables, or the record of a WITH around, of which the innermost is 0.
-#[derive(Clone, Copy)]
+/// its number among that one's variables, an element of the open array that is a parameter, by the same and an index, or the
+/// record of a WITH around, of which the innermost is 0.
+#[cycle(value)]
+#[derive(Drop)]
 pub enum RRoot {
     Variable(RNamed),
     Handed(u8, usize),
+    Along(u8, usize, Boxed<RExpr>),
     Held(usize),
 }
 
@@ -141,16 +146,17 @@ pub enum RMember {
 }
 
 /// An argument: a value, with its parameter's kind; a place for a VAR parameter; all that lies at a place, for an array or a
-/// record by value; or for a parameter that is an open array of characters an array, with the number of its last element, or
-/// a string.
+/// record by value; or for a parameter that is an open array an array, with the number of its last element, a string, or the
+/// open array that is a parameter, by how many levels out its procedure is and its number among that one's variables.
 #[cycle(value)]
 #[derive(Drop)]
 pub enum RArgument {
     Value(RKind, RExpr),
     Place(RPlace),
     All(RPlace),
-    Array(RPlace, u16),
+    Array(ROpening, RPlace, u16),
     Text(Shared<Text>),
+    Opened(ROpening, u8, usize),
 }
 
 /// A resolved statement. A place that is stored to has its kind; a copy has its place, and that of what is copied; a string
@@ -207,15 +213,24 @@ pub struct RLabel {
     pub high: i32,
 }
 
-/// Whether a variable holds what lies in it, or, as a VAR parameter, the address of a place that was handed in.
+/// Whether an open array is copied where its procedure is entered, or, as a VAR parameter, isn't.
+#[derive(Clone, Copy, PartialEq, Eq)]
+pub enum ROpening {
+    Copied,
+    Lent,
+}
+
+/// Whether a variable holds what lies in it, or, as a VAR parameter, the address of a place that was handed in, or, as an open
+/// array, that and the number of the last element.
 #[derive(Clone, Copy, PartialEq, Eq)]
 pub enum RPassing {
     ByValue,
     ByPlace,
+    Open(ROpening),
 }
 
 /// A variable: its name, the words before it in the module's data or its procedure's frame, the number of the shape of what
-/// lies in it or of the place that it leads to, and which of the two it is.
+/// lies in it, of the place that it leads to or of each element, and which of these it is.
 #[derive(Drop)]
 pub struct RDeclared {
     pub name: Name,
@@ -260,7 +275,7 @@ pub struct RModule {
 /// The base of the values of an expression: that of a chain's first operand, where all its operators give values of their
 /// operands' kind.
 #[cycle(kinds)]
-#[tactic(auto, using(crate::specs::Chains::chain_kind, crate::specs::Chains::set_kind, crate::specs::Views::invoke_is, crate::specs::Bases::own_base))]
+#[tactic(auto, using(crate::specs::Chains::chain_kind, crate::specs::Chains::set_kind, crate::specs::Views::invoke_is, crate::specs::Views::high_is, crate::specs::Bases::own_base))]
 pub fn base(e: &RExpr) -> RBase
     ensures { base_view result ≡ kind_of (expression_of e.now) }
 {
@@ -271,6 +286,7 @@ pub fn base(e: &RExpr) -> RBase
         RExpr::Apply(function, value) => function_base(*function, value.get()),
         RExpr::Set(_, _) => RBase::Set,
         RExpr::Invoke(_, _, kind, _) => kind.base,
+        RExpr::High(_, _) => RBase::Cardinal,
         RExpr::Chain(first, operations) => {
             if compute_all(operations.as_slice()) {
                 base(first.get())

@@ -117,7 +117,7 @@ module _ {t : Table} {vs : RNamed → Option RVar} {around : List ℕ} {R : Reac
   record AreGiven (ps : List Parameter) (before : List RArgument) (h : Option (List RArgument)) : Type 0 where
     added : List RArgument
     is : h ≡ Some (before ++ added)
-    handed : AreHanded t P.place P.value ps added
+    handed : AreHanded t P.place P.array P.value ps added
 
   handed_one : (p : Parameter) (before : List RArgument) (x : Found) (a : RArgument) → argument_given t p x ≡ Some a → handed_over t p (Some before) x ≡ Some (before ++ a ∷ [])
   unfolding handed_over
@@ -265,7 +265,7 @@ module _ {t : Table} {vs : RNamed → Option RVar} {around : List ℕ} {R : Reac
         g.added,
         g.is,
         subst (λ c. IsDone (if c then Some (statement.Call (n + 1) levels g.added) else None)) (sym (both_bytes P told n levels low few))
-            (made_sound ts looping _ _ (call_is (n + 1) levels g.added) (c.may, c.returns ∙ ap (returned t) none, record { takes = all.takes; sound = all.sound }, all.single)),
+            (made_sound ts looping _ _ (call_is (n + 1) levels g.added) (c.may, c.returns ∙ ap (returned t) none, record { takes = all.takes; sound = all.sound })),
       )
 
   statement_right : (p : Place) (c : Callee) (xs : List Argument) → CalleeTold t R c → AllFine (ArgumentTold P) xs → Right (IsThere (StatementSound ts looping)) (statement_of t p c xs)

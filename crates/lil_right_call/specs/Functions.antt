@@ -7,7 +7,7 @@ use Rattle.lil_base.specs.{Laws.{bounds, in_range}, Words.{Integer, between, num
 use Rattle.lil_types.specs.{Types.{Table, entry, integer, cardinal, boolean, char, base, is_whole}, declared.table.{Span.Span, TypeEntry.TypeEntry, TypeForm.{TypeForm, TheVariants.Enumeration}}}
 use Rattle.lil_declared.specs.declared.{declared.RVar.RVar, standard.Standard.Standard}
 use Rattle.lil_declared.specs.declared.standard.Standard.TheVariants as standard
-use Rattle.lil_resolved.specs.{Bases.own_base, Kinds.{least, greatest}, Resolved.{Function, Odd, kind_of, function_kind}, Sizes.depth, Sound.takes_function, Views.{base_view, function_of, expression_of, apply_is}, declared.resolved.{RBase.RBase, RExpr.RExpr, RFunction.RFunction, RKind.RKind, RNamed.RNamed}}
+use Rattle.lil_resolved.specs.{Bases.own_base, Kinds.{least, greatest}, Resolved.{Function, Odd, kind_of, function_kind}, Sizes.depth, Sound.takes_function, Views.{base_view, function_of, expression_of, apply_is, high_is}, declared.resolved.{RBase.RBase, RExpr.RExpr, RFunction.RFunction, RKind.RKind, RNamed.RNamed}}
 use Rattle.lil_resolved.specs.Kinds as kinds
 use Rattle.lil_resolved.specs.Sizes as sizes
 use Rattle.lil_resolved.specs.declared.resolved.RBase.TheVariants as b
@@ -17,9 +17,9 @@ use Rattle.lil_scope.specs.declared.thing.Kind.{Kind}
 use Rattle.lil_scope.specs.declared.thing.Kind.TheVariants as k
 use Rattle.lil_report.specs.Told.{Row}
 use Rattle.lil_kinds.specs.{Forms.{span_of, has_nil, target, is_opaque, shape}, Kinds.{is_constant, is_ordinal, number, suits, compatible, outside}}
-use Rattle.lil_kinds.specs.{Operators.{word_constant, constant_of, value_by, is_integer, is_number, absolute, capital, oddness, is_odd, converted_number, converted, where_taken, function, extreme_by, extreme}, declared.found.{Applied.{Applied, TheVariants.{Refused, Outside, Gives}}, Form.Form, Found.Found}}
+use Rattle.lil_kinds.specs.{Operators.{word_constant, constant_of, value_by, is_integer, is_number, absolute, capital, oddness, is_odd, converted_number, converted, is_open, where_taken, gives_where, function, extreme_by, extreme}, declared.found.{Applied.{Applied, TheVariants.{Refused, Outside, Gives}}, Form.Form, Found.Found}}
 use Rattle.lil_kinds.specs.declared.found.Form.TheVariants as form
-use Rattle.lil_forms.specs.{Properties.{Property, Reach}, Scopes.{both_left, both_right}, Values.{value_form, applied, function_by, typed, typed_by}}
+use Rattle.lil_forms.specs.{Properties.{Property, Reach}, Scopes.{both_left, both_right}, Values.{value_form, applied, high_of, function_value, typed, typed_by}}
 use Rattle.lil_call.specs.{declared.call.Argument.Argument, Procedures.{function_form, kept_form, function_depth, applied_node, no_value, no_type, of_type, of_value, of_one, ordinal_node, converted_if, of_two, of_all, function_if, function_mean, standard_node, agrees, is_function, is_extreme, takes_count}}
 use Rattle.lil_call.specs.declared.call.Argument.TheVariants as argument
 use Rattle.lil_right_type.specs.{Found.{is_scalar, HasWord, KindTold, IsBare, GoesWith, bare, IsFound}, Right.{Right, IsThere, is_so, after_right}, Typed.{Yields, either, is_character_number, kind_yields}, Types.{IsTold, IsOrdinal, ordinal_is}}
@@ -184,7 +184,8 @@ module _ {t : Table} {vs : RNamed → Option RVar} {around : List ℕ} {R : Reac
         let u = some_there (span_of t s) h in
         let o : IsOrdinal t s u.0 = ordinal_is t told s u.0 u.1 in
         (o.kind.base, o.ordinal, kind_yields P told s o.kind.base d (k.Of s) f o.base fine goes (same_again (base t s)))
-    ordered _ fine goes h none = absurd fine
+    ordered (k.Open s) fine goes h none = cc
+    ordered (k.Routine s) fine goes h none = absurd fine
 
     -- ---- what a function gives
     constant_given : (x : Form) (a : Applied) → IsTest t a → IsGiven d x a
@@ -215,32 +216,50 @@ module _ {t : Table} {vs : RNamed → Option RVar} {around : List ℕ} {R : Reac
       },
     )
 
-    function_told : (of : Standard) (s : ℕ) (a : Kind) → 1 ≤ d → KindTold t a → GoesWith P d a f → IsGiven d (value_form (applied (function_by t of s) (typed_by t cardinal a f))) (function t of s a)
-    unfolding function converted span_of
-    function_told standard.Abs s a some fine goes = taken_given _ (is_integer t a) _ (λ h.
-        number_given _ integer absolute (number t a) (λ z is. absolute_is t z) (λ none. value_given integer (plain b.Integer) fn.Abs b.Integer _ some refl refl refl (counting a fine goes h none)))
-    function_told standard.Cap s a some fine goes = taken_given _ (compatible t a (k.Of char)) _ (λ h.
-        let suits = compatible_suits t char a h in
-        number_given _ char (λ z. word_constant char (capital z)) (number t a) (λ z is. capital_is t z (character_number t told a z fine suits is))
-        (λ none. value_given char (plain b.Character) fn.Cap b.Character _ some refl refl refl (suited char b.Character a refl (no_nil t).2 fine goes suits none)))
-    function_told standard.Chr s a some fine goes = taken_given _ (is_number t a) _ (λ h.
-        number_given _ char (converted_number t char) (number t a) (λ z is. converted_told t told char _ z refl)
-        (λ none. let n = numbered a fine goes h none in value_given char (plain b.Character) fn.Chr n.0 _ some refl n.1 refl n.2))
-    function_told standard.High s (k.Open e) some fine goes = absurd fine
-    function_told standard.High s _ some fine goes = tt
-    function_told standard.Odd s a some fine goes = taken_given _ (is_number t a) _ (λ h.
-        number_given _ boolean oddness (number t a) (λ z is. oddness_is t z) (λ none. let n = numbered a fine goes h none in value_given boolean (plain b.Truth) fn.Odd n.0 _ some refl n.1 refl n.2))
-    function_told standard.Ord s a some fine goes = taken_given _ (is_ordinal t a) _ (λ h.
-        number_given _ cardinal (converted_number t cardinal) (number t a) (λ z is. converted_told t told cardinal _ z refl)
-        (λ none. let n = ordered a fine goes h none in value_given cardinal (plain b.Cardinal) fn.Ord n.0 _ some refl n.1 refl n.2))
-    function_told standard.Val s a some fine goes = taken_given _ (is_some (span_of t s) && is_ordinal t a) _ (λ h.
-        let u = some_there (span_of t s) (both_left (is_some (span_of t s)) (is_ordinal t a) h) in
-        let o : IsOrdinal t s u.0 = ordinal_is t told s u.0 u.1 in
-        number_given _ s (converted_number t s) (number t a) (λ z is. converted_told t told s u.0 z u.1) (λ none.
-        let n = ordered a fine goes (both_right (is_some (span_of t s)) (is_ordinal t a) h) none in
-        subst (λ m. IsGiven d (value_form (applied (option_map fn.Val m) (typed_by t cardinal a f))) (Gives (k.Of s))) (sym o.at)
-        (value_given s o.kind (fn.Val o.kind) n.0 _ some o.at (λ i. n.1 i && (ap kinds.is_ordinal (own_base o.kind) ∙ o.ordinal) i) (own_base o.kind) n.2)))
-    function_told _ s a some fine goes = tt
+    -- HIGH of an open array
+    high_given : (a : Kind) → GoesWith P d a f → IsGiven d (value_form (high_of f)) (gives_where (is_open a) cardinal)
+    unfolding is_constant
+    high_given (k.Open s) goes = by f goes
+      where
+        by : (f : Form) → GoesWith P d (k.Open s) f → IsGiven d (value_form (high_of f)) (Gives (k.Of cardinal))
+        by (form.Open o) goes = (
+          refl,
+          record {
+            as_kind = plain b.Cardinal;
+            at = refl;
+            kind = ap kind_of (high_is o.levels o.number);
+            deep = subst (λ a. depth a ≤ max 1 d + 1) (sym (high_is o.levels o.number)) (omega arith);
+            good = P.high o goes.good;
+          },
+        )
+        by _ goes = absurd goes
+    high_given _ goes = tt
+
+  function_told : (of : Standard) (s : ℕ) (x : Found) → 1 ≤ x.depth → KindTold t x.kind → GoesWith P x.depth x.kind x.form → IsGiven x.depth (value_form (function_value t of s x)) (function t of s x.kind)
+  unfolding function converted span_of typed
+  function_told standard.Abs s x some fine goes = taken_given x.depth x.form _ (is_integer t x.kind) _ (λ h.
+      number_given x.depth x.form _ integer absolute (number t x.kind) (λ z is. absolute_is t z) (λ none. value_given x.depth x.form integer (plain b.Integer) fn.Abs b.Integer _ some refl refl refl (counting x.depth x.form x.kind fine goes h none)))
+  function_told standard.Cap s x some fine goes = taken_given x.depth x.form _ (compatible t x.kind (k.Of char)) _ (λ h.
+      let suits = compatible_suits t char x.kind h in
+      number_given x.depth x.form _ char (λ z. word_constant char (capital z)) (number t x.kind) (λ z is. capital_is t z (character_number t told x.kind z fine suits is))
+      (λ none. value_given x.depth x.form char (plain b.Character) fn.Cap b.Character _ some refl refl refl (suited x.depth x.form char b.Character x.kind refl (no_nil t).2 fine goes suits none)))
+  function_told standard.Chr s x some fine goes = taken_given x.depth x.form _ (is_number t x.kind) _ (λ h.
+      number_given x.depth x.form _ char (converted_number t char) (number t x.kind) (λ z is. converted_told t told char _ z refl)
+      (λ none. let n = numbered x.depth x.form x.kind fine goes h none in value_given x.depth x.form char (plain b.Character) fn.Chr n.0 _ some refl n.1 refl n.2))
+  function_told standard.High s x some fine goes = high_given x.depth x.form x.kind goes
+  function_told standard.Odd s x some fine goes = taken_given x.depth x.form _ (is_number t x.kind) _ (λ h.
+      number_given x.depth x.form _ boolean oddness (number t x.kind) (λ z is. oddness_is t z) (λ none. let n = numbered x.depth x.form x.kind fine goes h none in value_given x.depth x.form boolean (plain b.Truth) fn.Odd n.0 _ some refl n.1 refl n.2))
+  function_told standard.Ord s x some fine goes = taken_given x.depth x.form _ (is_ordinal t x.kind) _ (λ h.
+      number_given x.depth x.form _ cardinal (converted_number t cardinal) (number t x.kind) (λ z is. converted_told t told cardinal _ z refl)
+      (λ none. let n = ordered x.depth x.form x.kind fine goes h none in value_given x.depth x.form cardinal (plain b.Cardinal) fn.Ord n.0 _ some refl n.1 refl n.2))
+  function_told standard.Val s x some fine goes = taken_given x.depth x.form _ (is_some (span_of t s) && is_ordinal t x.kind) _ (λ h.
+      let u = some_there (span_of t s) (both_left (is_some (span_of t s)) (is_ordinal t x.kind) h) in
+      let o : IsOrdinal t s u.0 = ordinal_is t told s u.0 u.1 in
+      number_given x.depth x.form _ s (converted_number t s) (number t x.kind) (λ z is. converted_told t told s u.0 z u.1) (λ none.
+      let n = ordered x.depth x.form x.kind fine goes (both_right (is_some (span_of t s)) (is_ordinal t x.kind) h) none in
+      subst (λ m. IsGiven x.depth (value_form (applied (option_map fn.Val m) (typed_by t cardinal x.kind x.form))) (Gives (k.Of s))) (sym o.at)
+      (value_given x.depth x.form s o.kind (fn.Val o.kind) n.0 _ some o.at (λ i. n.1 i && (ap kinds.is_ordinal (own_base o.kind) ∙ o.ordinal) i) (own_base o.kind) n.2)))
+  function_told _ s x some fine goes = tt
 
   -- ---- calls
   module _ (p : Place) (of : Standard) where
@@ -259,8 +278,7 @@ module _ {t : Table} {vs : RNamed → Option RVar} {around : List ℕ} {R : Reac
         (λ is. applied_right at 1 form.Nothing (extreme t of s) (omega arith) (constant_given 1 form.Nothing form.Nothing (extreme t of s) (extreme_told t told of s))) (λ is clear. absurd (true≢false clear.0))
 
     given_right : (s : ℕ) (x : Found) → IsFound P x → IsRight (applied_node p x.first x.depth (function_form t of s x) (function t of s x.kind))
-    unfolding typed
-    given_right s x h = applied_right x.first x.depth (function_form t of s x) (function t of s x.kind) h.few (function_told x.depth x.form of s x.kind h.some h.kind h.form)
+    given_right s x h = applied_right x.first x.depth (function_form t of s x) (function t of s x.kind) h.few (function_told of s x h.some h.kind h.form)
 
     value_right : (x : Found) → IsFound P x → IsRight (of_value t p of x)
     unfolding no_type

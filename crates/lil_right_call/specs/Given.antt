@@ -3,21 +3,22 @@ use Rattle.std.proofs.Common.{◌≡◌, ℕ, suc, ◌+◌, ◌≤◌, Bool, tru
 use Rattle.std.specs.Prelude.{ℤ, pos, negsuc, ◌≤ℤ◌, ◌+ℤ◌, ◌-ℤ◌, ◌==◌, ◌&&◌, nat_le, is_some}
 use Rattle.std.specs.Option.{option_map}
 use Rattle.std.proofs.lemmas.{Int.ints, Option.{none-some, same_Some}, Bool.Decides.nat_tests}
-use Rattle.lil_types.specs.{Types.{Table, char, address, meant, same}, declared.table.Parameter.Parameter}
+use Rattle.lil_types.specs.{Types.{Table, char, address, meant, same}, declared.table.{Parameter.Parameter, Span.Span}}
 use Rattle.lil_declared.specs.declared.declared.RVar.{RVar}
 use Rattle.lil_resolved.specs.Kinds as kinds
-use Rattle.lil_resolved.specs.{Kinds.{Word, Opened, OfCharacter, Scope, OfPointer, Workspaces, nat_of}, Resolved.{Argument, OfArray, OfText}, Sizes.{place_depth, depth}, Sound.{parameter_of, IsServed, IsSoundArgument, IsSoundStored, IsSoundTarget, IsSoundValue, IsSoundWhole}, Views.{argument_of, of_array_is, of_text_is, base_view, kind_view, expression_of, place_of}, declared.resolved.{RArgument.RArgument, RBase.RBase, RExpr.RExpr, RKind.RKind, RNamed.RNamed, RPlace.RPlace}}
+use Rattle.lil_resolved.specs.{Kinds.{Shape, Word, Row, Opened, OfCharacter, Scope, OfPointer, Workspaces, nat_of, is_there, element_of, along, shape_by}, Resolved.{Argument, OfArray, OfText, OfOpened, shape_of}, Sizes.depth, Sound.{parameter_of, IsServed, IsSoundArgument, IsSoundStored, IsSoundTarget, IsSoundValue, IsSoundWhole}, Views.{argument_of, of_array_is, of_text_is, of_opened_is, base_view, kind_view, expression_of, place_of}, declared.resolved.{RArgument.RArgument, RBase.RBase, RExpr.RExpr, RKind.RKind, RNamed.RNamed, RPlace.RPlace}}
 use Rattle.lil_resolved.specs.declared.resolved.RArgument.TheVariants as given
 use Rattle.lil_resolved.specs.declared.resolved.RBase.TheVariants as b
-use Rattle.lil_shapes.specs.{BaseLaws.{same_sort, kind_base}, Pointers.lies_at, Bases.{plain, base_at, kind_at, composite_at, numbers_of, characters_in, characters_at}}
+use Rattle.lil_shapes.specs.{BaseLaws.{same_sort, kind_base}, Pointers.lies_at, Bases.{plain, base_at, kind_at, array_at, composite_at, numbers_of, elements_in, elements_at}, ShapeSound.word_shaped}
+use Rattle.lil_shapes.specs.declared.composites.ArrayParts as shaped
 use Rattle.lil_scope.specs.declared.thing.Kind.{Kind}
 use Rattle.lil_scope.specs.declared.thing.Kind.TheVariants as k
 use Rattle.lil_kinds.specs.{Forms.array_parts, declared.{forms.ArrayParts.ArrayParts, found.{Form.Form, Found.Found, Located.Located}}}
 use Rattle.lil_kinds.specs.declared.found.Form.TheVariants as form
-use Rattle.lil_forms.specs.{Properties.{Property, Reach, IsHanded, value_kind}, Scopes.{Fits, both_left, both_right}, Soundness.{soundness, Lies, characters_lie}, Statements.{last_of, array_as, array_given, string_given, value_as, value_by, located_in, place_given, whole_given, argument_given}, Values.typed}
+use Rattle.lil_forms.specs.{Places.located_in, Properties.{Property, Reach, IsHanded, IsArrayFor, IsTextFor, IsOpenFor, value_kind}, Scopes.{Fits, both_left, both_right, has_shape}, Soundness.{soundness, characters_lie, opens_soundly}, Statements.{opening, last_of, array_as, open_given, value_as, value_by, place_given, whole_given, argument_given}, Values.typed}
 use Rattle.lil_call.specs.Passing.{has_elements, is_array_of, is_of, is_open, is_text, is_variable, is_wrong_value, is_wrong_place, is_outside, is_spelled}
-use Rattle.lil_right_type.specs.{Found.{KindTold, LiesAt, GoesWith, IsFound, ParameterTold, value, place}, Parts.{IsArray, no_kind, array_is}, Right.{IsThere, is_so}, Sound.stored_sound, Typed.{Suits, Stores, assignable_stores, stores_suits}, Types.{IsTold, IsOrdinal, meant_is, known_ordinal}}
-use Rattle.lil_right_call.specs.{Functions.number_bounds, Places.{IsVariable, variable_is, target_sound}, Wholes.whole_or_spelled}
+use Rattle.lil_right_type.specs.{Found.{LiesAt, GoesWith, IsFound, ParameterTold, value, place}, Parts.{IsArray, no_kind, array_is}, Right.{IsThere, is_so}, Sound.stored_sound, Typed.{Suits, Stores, either, assignable_stores, stores_suits}, Types.{IsTold, IsOrdinal, meant_is, known_ordinal}}
+use Rattle.lil_right_call.specs.{Functions.number_bounds, Places.{IsVariable, place_is, target_sound}, Wholes.whole_or_spelled}
 
 -- what the tests of an argument leave
 pub record IsTaken (t : Table) (p : Parameter) (x : Found) : Type 0 where
@@ -26,19 +27,51 @@ pub record IsTaken (t : Table) (p : Parameter) (x : Found) : Type 0 where
   pub inside : is_outside t p x.kind ≡ false
   pub spelled : is_spelled t p x.kind ≡ false
 
-abbrev pub open_array : ℕ → Parameter
-open_array s = record { by_place = false; open_array = true; sort = s }
+abbrev pub opened : Bool → ℕ → Parameter
+opened c s = record { by_place = c; open_array = true; sort = s }
 
 pub there_is : {A : Type 0} (P : A → Type 0) (o : Option A) → IsThere P o → (a : A) × (o ≡ Some a) × P a
 there_is P None h = absurd h
 there_is P (Some a) h = (a, refl, h)
+
+-- what is no string isn't taken as one
+no_text : (c d : Bool) → (not c && (d && false)) ≡ true → ⊥
+no_text true d h = cc
+no_text false true h = cc
+no_text false false h = cc
+
+-- a number of elements leaves a last one
+has_last : (z : ℤ) → pos 0 ≤ℤ z → z ≤ℤ pos 65535 → (n : ℕ) × (nat_of (z +ℤ pos 1) ≡ suc n) × (n ≤ 65535)
+has_last (negsuc n) low high = absurd (omega (arith, ints))
+has_last (pos n) low high = let more : n + 1 ≡ suc n = omega arith in (n, more, omega (arith, ints, high))
+
+-- the numbers of an ordinal type do
+last_number : (t : Table) (n : ℕ) (u : Span) → IsOrdinal t n u → (k : ℕ) × (nat_of ((u.high -ℤ u.low) +ℤ pos 1) ≡ suc k) × (k ≤ 65535)
+last_number t n u o = has_last (u.high -ℤ u.low) (omega (arith, ints, o.ordered)) (omega (arith, ints, o.from, o.to, (number_bounds o.kind.base o.ordinal).2))
+
+-- and so do the elements of an array
+record HasLast (t : Table) (s : ℕ) : Type 0 where
+  high : ℕ
+  count : elements_at t s ≡ Some (suc high)
+  few : high ≤ 65535
+
+last_there : (t : Table) → IsTold t → (s : ℕ) (p : ArrayParts) → array_parts t s ≡ Some p → HasLast t s
+last_there t told s p at =
+    let a : IsArray t s p = array_is t told s p at in
+    let o : IsOrdinal t p.index a.span.0 = known_ordinal t told p.index a.span.0 a.span.1 in
+    let last = last_number t p.index a.span.0 o in
+    record {
+      high = last.0;
+      count = ap (elements_in t) a.at ∙ ap (option_map numbers_of) o.at ∙ (λ i. Some (nat_of ((o.greatest i -ℤ o.least i) +ℤ pos 1))) ∙ ap Some last.1;
+      few = last.2;
+    }
 
 -- ---- arguments for the parameters of procedures
 module _ {t : Table} {vs : RNamed → Option RVar} {around : List ℕ} {R : Reach} (P : Property t vs around R) (told : IsTold t) (x : Found) (h : IsFound P x) where
   pub place_there : (s : ℕ) → IsTaken t (place s) x → (v : IsVariable P x) × (v.at.sort ≡ s) × (argument_given t (place s) x ≡ Some (given.Place v.at.place))
   place_there s taken =
       let so = is_so (is_variable x.standing && is_of t s x.kind) taken.place in
-      let v : IsVariable P x = variable_is P x h (both_left (is_variable x.standing) _ so) in
+      let v : IsVariable P x = place_is P x (is_of t s) (λ n. refl) h (both_left (is_variable x.standing) _ so) (both_right (is_variable x.standing) _ so) in
       let same : v.sort ≡ s = sym (meant_is t told v.sort) ∙ same_sort (meant t v.sort) (meant t s) (sym (ap (is_of t s) v.kind) ∙ both_right (is_variable x.standing) _ so) ∙ meant_is t told s in
       (v, v.same ∙ same, ap (λ f. place_given (located_in f)) v.form)
 
@@ -48,12 +81,12 @@ module _ {t : Table} {vs : RNamed → Option RVar} {around : List ℕ} {R : Reac
       (y.0, ap (λ o. value_by t s o x) at ∙ ap (value_as j) y.1, y.2)
 
   abbrev pub IsArgument : Parameter → Type 0
-  IsArgument p = (a : RArgument) × (argument_given t p x ≡ Some a) × IsHanded t P.place P.value p a
+  IsArgument p = (a : RArgument) × (argument_given t p x ≡ Some a) × IsHanded t P.place P.array P.value p a
 
   value_argument : (s : ℕ) (j : RKind) → kind_at t s ≡ Some j → IsTaken t (value s) x → IsArgument (value s)
   value_argument s j at taken =
       let y = stored_given s j at taken in
-      (given.Value j y.0, y.1, inl (record { kind = j; value = y.0; is = refl; by_value = refl; at = at; stores = y.2.0; shallow = omega (arith, h.few, y.2.1); good = y.2.2 }))
+      (given.Value j y.0, y.1, inl (record { kind = j; value = y.0; is = refl; by_value = refl; closed = refl; at = at; stores = y.2.0; shallow = omega (arith, h.few, y.2.1); good = y.2.2 }))
 
   whole_argument : (s : ℕ) → kind_at t s ≡ None → lies_at t s ≡ true → IsTaken t (value s) x → IsArgument (value s)
   whole_argument s none alive taken =
@@ -62,7 +95,7 @@ module _ {t : Table} {vs : RNamed → Option RVar} {around : List ℕ} {R : Reac
         | inl v ↦ (
           given.All v.at.place,
           ap (λ o. value_by t s o x) none ∙ ap (λ c. if c then whole_given (located_in x.form) else None) composite ∙ ap (λ f. whole_given (located_in f)) v.is,
-          inr (inr (record { at = v.at; is = refl; by_value = refl; sort = v.lies.sort; shallow = omega (arith, h.few, v.lies.deep); good = v.lies.good })),
+          inr (inr (inl (record { at = v.at; is = refl; by_value = refl; closed = refl; sort = v.lies.sort; shallow = omega (arith, h.few, v.lies.deep); good = v.lies.good }))),
         )
         | inr v ↦ absurd (true≢false (sym (λ i. is_text (v.its i) && composite i) ∙ taken.spelled))
       ]
@@ -70,7 +103,7 @@ module _ {t : Table} {vs : RNamed → Option RVar} {around : List ℕ} {R : Reac
   place_argument : (s : ℕ) → IsTaken t (place s) x → IsArgument (place s)
   place_argument s taken =
       let v = place_there s taken in
-      (given.Place v.0.at.place, v.2, inr (inl (record { at = v.0.at; is = refl; by_place = refl; sort = v.1; shallow = v.0.deep; good = v.0.good })))
+      (given.Place v.0.at.place, v.2, inr (inl (record { at = v.0.at; is = refl; by_place = refl; closed = refl; sort = v.1; shallow = v.0.deep; good = v.0.good })))
 
   by_value : (s : ℕ) → lies_at t s ≡ true → IsTaken t (value s) x → IsArgument (value s)
   by_value s alive taken = by (kind_at t s) refl
@@ -79,16 +112,77 @@ module _ {t : Table} {vs : RNamed → Option RVar} {around : List ℕ} {R : Reac
       by None none = whole_argument s none alive taken
       by (Some j) at = value_argument s j at taken
 
-  pub argument_there : (p : Parameter) → ParameterTold t p → IsTaken t p x → IsArgument p
-  argument_there p of taken = by p.by_place refl
+  -- ---- open arrays
+  same_type : (n s : ℕ) → same t n s ≡ true → n ≡ s
+  same_type n s is = sym (meant_is t told n) ∙ same_sort (meant t n) (meant t s) is ∙ meant_is t told s
+
+  -- an array of elements of a type
+  array_argument : (c : Bool) (s n : ℕ) (p : ArrayParts) (q : Located) → x.form ≡ form.Located q → LiesAt P n x.depth q → array_parts t n ≡ Some p → same t p.element s ≡ true → IsArgument (opened c s)
+  array_argument c s n p q is lies at of =
+      let parts : shaped.ArrayParts = record { index = p.index; element = p.element } in
+      let last = last_there t told n p at in
+      let count : elements_at t q.sort ≡ Some (suc last.high) = ap (elements_at t) lies.sort ∙ last.count in
+      let fit : nat_le last.high 65535 ≡ true = grind (arith, nat_tests, last.few) in (
+        given.Array (opening c) q.place last.high,
+        ap (open_given t (opening c)) is ∙ ap (λ n. array_as (opening c) q (last_of n)) count ∙ ap (λ b. array_as (opening c) q (if b then Some last.high else None)) fit,
+        inr (inr (inr (inl (record {
+          at = q;
+          high = last.high;
+          is = refl;
+          opens = refl;
+          parts = parts;
+          array = ap (array_at t) lies.sort ∙ (array_is t told n p at).at;
+          element = same_type p.element s of;
+          count = count;
+          few = last.few;
+          shallow = omega (arith, h.few, lies.deep);
+          good = lies.good;
+        })))),
+      )
+
+  -- that, another open array, or by value a string
+  open_by : (c : Bool) (s : ℕ) (a : Kind) (f : Form) → x.form ≡ f → GoesWith P x.depth a f → (is_array_of t s a || (not c && (s == char && is_text a))) ≡ true → IsArgument (opened c s)
+  open_by c s (k.Of n) f is goes so = by (array_parts t n) refl f is goes (elim (either (has_elements t s (array_parts t n)) _ so) [ inl e ↦ e | inr e ↦ absurd (no_text c (s == char) e) ])
     where
-      by : (c : Bool) → p.by_place ≡ c → IsArgument p
-      by true is =
-          let same : p ≡ place p.sort = λ i. record { by_place = is i; open_array = of.closed i; sort = p.sort } in
-          subst IsArgument (sym same) (place_argument p.sort (subst (λ (q : Parameter). IsTaken t q x) same taken))
-      by false is =
-          let same : p ≡ value p.sort = λ i. record { by_place = is i; open_array = of.closed i; sort = p.sort } in
-          subst IsArgument (sym same) (by_value p.sort of.lies (subst (λ (q : Parameter). IsTaken t q x) same taken))
+      by : (o : Option ArrayParts) → array_parts t n ≡ o → (f : Form) → x.form ≡ f → GoesWith P x.depth (k.Of n) f → has_elements t s (array_parts t n) ≡ true → IsArgument (opened c s)
+      by None at f is goes so = absurd (true≢false (sym so ∙ ap (has_elements t s) at))
+      by (Some p) at (form.Located q) is goes so = array_argument c s n p q is goes at (sym (ap (has_elements t s) at) ∙ so)
+      by (Some p) at (form.Value y) is goes so =
+          let none = no_kind t told n (array_is t told n p at).composite in
+          absurd (none-some goes.as_kind.base (sym none.1 ∙ sym (ap (base_at t) none.0) ∙ kind_base t n goes.as_kind goes.at))
+      by (Some p) at _ is goes so = absurd goes
+  open_by true s (k.Chars d) f is goes so = cc
+  open_by false s (k.Chars d) (form.Text cs) is goes so = (
+    given.Text cs,
+    ap (open_given t (opening false)) is,
+    inr (inr (inr (inr (inl (record { text = cs; is = refl; by_value = refl; opens = refl; sort = same_sort s char (both_left (s == char) true so); told = goes.1 }))))),
+  )
+  open_by false s (k.Chars d) _ is goes so = absurd goes
+  open_by c s (k.Open n) (form.Open o) is goes so =
+      let of : n ≡ s = elim (either (same t n s) _ so) [ inl e ↦ same_type n s e | inr e ↦ absurd (no_text c (s == char) e) ] in
+      (given.Opened (opening c) o.levels o.number, ap (open_given t (opening c)) is, inr (inr (inr (inr (inr (record { at = o; is = refl; opens = refl; sort = goes.sort ∙ of; good = goes.good }))))))
+  open_by c s (k.Open n) _ is goes so = absurd goes
+  open_by c s _ f is goes so = absurd (no_text c (s == char) so)
+
+  pub open_argument : (s : ℕ) → IsTaken t (opened false s) x → IsArgument (opened false s)
+  open_argument s taken = open_by false s x.kind x.form refl h.form (is_so _ taken.value)
+
+  open_place : (s : ℕ) → IsTaken t (opened true s) x → IsArgument (opened true s)
+  open_place s taken =
+      let so = is_so (is_variable x.standing && is_array_of t s x.kind) taken.place in
+      open_by true s x.kind x.form refl h.form (ap (λ c. c || false) (both_right (is_variable x.standing) (is_array_of t s x.kind) so))
+
+  pub argument_there : (p : Parameter) → ParameterTold t p → IsTaken t p x → IsArgument p
+  argument_there p lies taken = by p.by_place p.open_array refl refl
+    where
+      one : (q : Parameter) → p ≡ q → (IsTaken t q x → IsArgument q) → IsArgument p
+      one q same f = subst IsArgument (sym same) (f (subst (λ (q : Parameter). IsTaken t q x) same taken))
+
+      by : (c o : Bool) → p.by_place ≡ c → p.open_array ≡ o → IsArgument p
+      by true false is opens = one (place p.sort) (λ i. record { by_place = is i; open_array = opens i; sort = p.sort }) (place_argument p.sort)
+      by false false is opens = one (value p.sort) (λ i. record { by_place = is i; open_array = opens i; sort = p.sort }) (by_value p.sort lies)
+      by true true is opens = one (opened true p.sort) (λ i. record { by_place = is i; open_array = opens i; sort = p.sort }) (open_place p.sort)
+      by false true is opens = one (opened false p.sort) (λ i. record { by_place = is i; open_array = opens i; sort = p.sort }) (open_argument p.sort)
 
 -- ---- what resident procedures are handed
 module _ {t : Table} {vs : RNamed → Option RVar} {around : List ℕ} {R : Reach} {ts : Scope} (fits : Fits t vs around R ts) where
@@ -105,50 +199,42 @@ module _ {t : Table} {vs : RNamed → Option RVar} {around : List ℕ} {R : Reac
   module _ (told : IsTold t) where
     -- ---- strings
     abbrev IsString : RArgument → Type 0
-    IsString a = (parameter_of ts (argument_of a) ≡ Opened (Word OfCharacter)) × IsSoundArgument ts (argument_of a) × IsServed (argument_of a)
+    IsString a = (parameter_of ts (argument_of a) ≡ Opened true (Word OfCharacter)) × IsSoundArgument ts (argument_of a) × IsServed (argument_of a)
 
-    string_as : (a : RArgument) (y : Argument) → argument_of a ≡ y → parameter_of ts y ≡ Opened (Word OfCharacter) → IsSoundArgument ts y → IsServed y → IsString a
+    string_as : (a : RArgument) (y : Argument) → argument_of a ≡ y → parameter_of ts y ≡ Opened true (Word OfCharacter) → IsSoundArgument ts y → IsServed y → IsString a
     string_as a y is shape good served = (ap (parameter_of ts) is ∙ shape, subst (IsSoundArgument ts) (sym is) good, subst IsServed (sym is) served)
 
-    -- an array of so many characters has a last one
-    last_there : (q : Located) (z : ℤ) → pos 0 ≤ℤ z → z ≤ℤ pos 65535 → characters_at t q.sort ≡ Some (nat_of (z +ℤ pos 1)) → Lies fits q → place_depth (place_of q.place) ≤ 13 → IsThere IsString (array_given t q)
-    last_there q (negsuc n) h few many lies shallow = absurd (omega (arith, ints))
-    last_there q (pos n) h few many lies shallow =
-        let more : n + 1 ≡ suc n = omega arith in
-        let number : characters_at t q.sort ≡ Some (suc n) = many ∙ ap Some more in
-        let fit : nat_le n 65535 ≡ true = grind (arith, nat_tests, ints, few) in
-        subst (λ o. IsThere IsString (array_as q (last_of o))) (sym number)
-        (subst (λ c. IsThere IsString (array_as q (if c then Some n else None))) (sym fit) (string_as (given.Array q.place n) (OfArray (place_of q.place) n) (of_array_is q.place n) refl (characters_lie fits q (suc n) lies number, shallow, lies.good) tt))
+    -- an array of characters, a string, and an open array
+    array_string : (a : RArgument) → IsArrayFor t P.place P.array P.value (opened false char) a → IsString a
+    array_string a h =
+        let d = place_of h.at.place in
+        let row : shape_of ts d ≡ Row (suc h.high) (Word OfCharacter) = characters_lie fits h.at h.parts (suc h.high) h.good h.array h.element h.count in
+        let word : element_of (shape_of ts d) ≡ Word OfCharacter = ap element_of row in
+        string_as a (OfArray true d h.high) (ap argument_of h.is ∙ of_array_is (opening false) h.at.place h.high) (ap (Opened true) word)
+        (row ∙ ap (Row (suc h.high)) (sym word), ap is_there word, h.few, h.shallow, h.good.good) tt
 
-    array_there : (q : Located) (n d : ℕ) (p : ArrayParts) → d ≤ 12 → LiesAt P n d q → array_parts t n ≡ Some p → same t p.element char ≡ true → IsThere IsString (array_given t q)
-    array_there q n d p few lies is of =
-        let a : IsArray t n p = array_is t told n p is in
-        let o : IsOrdinal t p.index a.span.0 = known_ordinal t told p.index a.span.0 a.span.1 in
-        let element : (p.element == char) ≡ true = ap (λ n. n == char) (sym (meant_is t told p.element)) ∙ of in
-        let many : characters_at t q.sort ≡ Some (numbers_of o.kind) =
-        ap (characters_at t) lies.sort ∙ ap (characters_in t) a.at ∙ ap (λ c. if c then option_map numbers_of (kind_at t p.index) else None) element ∙ ap (option_map numbers_of) o.at in
-        last_there q (a.span.0.high -ℤ a.span.0.low) (omega (arith, ints, o.ordered)) (omega (arith, ints, o.from, o.to, (number_bounds o.kind.base o.ordinal).2))
-        (many ∙ (λ i. Some (nat_of ((o.greatest i -ℤ o.least i) +ℤ pos 1)))) lies.good (omega (arith, few, lies.deep))
+    text_string : (a : RArgument) → IsTextFor t P.place P.array P.value (opened false char) a → IsString a
+    text_string a h = string_as a (OfText h.text) (ap argument_of h.is ∙ of_text_is h.text) refl h.told tt
 
-    -- what goes with a string, or with an array of characters
-    string_by : (d : ℕ) (a : Kind) (f : Form) → d ≤ 12 → KindTold t a → GoesWith P d a f → (is_array_of t char a || is_text a) ≡ true → IsThere IsString (string_given t f)
-    string_by d (k.Chars c) (form.Text cs) few fine goes h = string_as (given.Text cs) (OfText cs) (of_text_is cs) refl goes.1 tt
-    string_by d (k.Chars c) _ few fine goes h = absurd goes
-    string_by d (k.Of n) f few fine goes h = by (array_parts t n) refl f goes (grind (arith, nat_tests, h))
-      where
-        by : (o : Option ArrayParts) → array_parts t n ≡ o → (f : Form) → GoesWith P d (k.Of n) f → has_elements t char (array_parts t n) ≡ true → IsThere IsString (string_given t f)
-        by None is f goes h = absurd (true≢false (sym h ∙ ap (has_elements t char) is))
-        by (Some p) is (form.Located q) goes h = array_there q n d p few goes is (sym (ap (has_elements t char) is) ∙ h)
-        by (Some p) is (form.Value y) goes h =
-            let none = no_kind t told n (array_is t told n p is).composite in
-            absurd (none-some goes.as_kind.base (sym none.1 ∙ sym (ap (base_at t) none.0) ∙ kind_base t n goes.as_kind goes.at))
-        by (Some p) is _ goes h = absurd goes
-    string_by d (k.Open s) f few fine goes h = absurd fine
-    string_by d _ f few fine goes h = cc
+    open_string : (a : RArgument) → IsOpenFor t P.place P.array P.value (opened false char) a → IsString a
+    open_string a h =
+        let q = h.at in
+        let word : h.good.shape ≡ Word OfCharacter = word_shaped t fits.shapes char h.good.shape (has_shape fits char h.good.shape (ap (slice_get fits.shapes) (sym h.sort) ∙ h.good.element)) (plain b.Character) refl in
+        string_as a (OfOpened true q.levels q.number) (ap argument_of h.is ∙ of_opened_is (opening false) q.levels q.number) (ap (λ (o : Option Shape). Opened true (along (shape_by o))) h.good.at ∙ ap (Opened true) word)
+        (opens_soundly fits q h.good) tt
+
+    -- what is handed over for an open array of characters
+    string_handed : (a : RArgument) → IsHanded t P.place P.array P.value (opened false char) a → IsString a
+    string_handed a (inl h) = absurd (true≢false h.closed)
+    string_handed a (inr (inl h)) = absurd (true≢false h.closed)
+    string_handed a (inr (inr (inl h))) = absurd (true≢false h.closed)
+    string_handed a (inr (inr (inr (inl h)))) = array_string a h
+    string_handed a (inr (inr (inr (inr (inl h))))) = text_string a h
+    string_handed a (inr (inr (inr (inr (inr h))))) = open_string a h
 
     module _ (x : Found) (h : IsFound P x) where
-      pub string_there : IsTaken t (open_array char) x → (a : RArgument) × (argument_given t (open_array char) x ≡ Some a) × IsString a
-      string_there taken = there_is IsString (string_given t x.form) (string_by x.depth x.kind x.form h.few h.kind h.form (is_so _ taken.value))
+      pub string_there : IsTaken t (opened false char) x → (a : RArgument) × (argument_given t (opened false char) x ≡ Some a) × IsString a
+      string_there taken = let a = open_argument P told x h char taken in (a.0, a.1, string_handed a.0 a.2)
 
       -- ---- values
       pub value_there : (s : ℕ) (k : RBase) → kind_at t s ≡ Some (plain k) → kinds.is_ordinal (base_view k) ≡ true → IsTaken t (value s) x

@@ -1,20 +1,20 @@
 -- Told values that are variables, and what lies at their places.
-use Rattle.std.proofs.Common.{◌≡◌, ℕ, ◌≤◌, true, List, Option, Some, refl, ap, ◌∙◌, arith}
+use Rattle.std.proofs.Common.{◌≡◌, ◌⊎◌, inl, inr, ℕ, ◌≤◌, Bool, true, false, List, Option, Some, refl, sym, ap, ◌∙◌, arith, true≢false}
 use Rattle.lil_types.specs.Types.{Table}
 use Rattle.lil_declared.specs.declared.declared.RVar.{RVar}
 use Rattle.lil_scope.specs.declared.thing.Kind.{Kind}
 use Rattle.lil_scope.specs.declared.thing.Kind.TheVariants as k
-use Rattle.lil_kinds.specs.declared.found.{Form.Form, Found.Found, Located.Located, Standing.Standing}
+use Rattle.lil_kinds.specs.declared.found.{Form.Form, Found.Found, Located.Located, OpenArray.OpenArray, Standing.Standing}
 use Rattle.lil_kinds.specs.declared.found.Form.TheVariants as form
 use Rattle.lil_kinds.specs.declared.found.Standing.TheVariants as standing
 use Rattle.lil_resolved.specs.{Kinds.Scope, Sizes.place_depth, Sound.IsSoundTarget, Views.{kind_view, place_of}, declared.resolved.{RKind.RKind, RNamed.RNamed}}
 use Rattle.lil_shapes.specs.Bases.{kind_at}
-use Rattle.lil_forms.specs.{declared.places.Cell.Cell, Places.{cell_as, cell}, Properties.{Property, Reach}, Scopes.Fits, Soundness.{soundness, target}, Statements.located_in}
+use Rattle.lil_forms.specs.{declared.places.Cell.Cell, Places.{located_in, cell_as, cell}, Properties.{Property, Reach}, Scopes.Fits, Soundness.{soundness, target}}
 use Rattle.lil_call.specs.Passing.{is_variable}
-use Rattle.lil_right_type.specs.Found.{GoesWith, HasPlace, IsFound}
+use Rattle.lil_right_type.specs.Found.{OpensAt, GoesWith, HasPlace, IsFound}
 
 module _ {t : Table} {vs : RNamed → Option RVar} {around : List ℕ} {R : Reach} (P : Property t vs around R) (x : Found) where
-  -- a variable is a place of a type
+  -- a place of a type
   pub record IsVariable : Type 0 where
     pub sort : ℕ
     pub at : Located
@@ -24,13 +24,28 @@ module _ {t : Table} {vs : RNamed → Option RVar} {around : List ℕ} {R : Reac
     pub deep : place_depth (place_of at.place) ≤ 13
     pub good : P.place at
 
-  pub variable_is : IsFound P x → is_variable x.standing ≡ true → IsVariable
+  -- an open array of elements of a type
+  pub record IsOpened : Type 0 where
+    pub sort : ℕ
+    pub array : OpenArray
+    pub kind : x.kind ≡ k.Open sort
+    pub form : x.form ≡ form.Open array
+    pub opens : OpensAt P sort array
+
+  -- a variable is one of these
+  pub variable_is : IsFound P x → is_variable x.standing ≡ true → IsVariable ⊎ IsOpened
   variable_is h is = by x.standing x.kind x.form is refl refl h.place h.form
     where
-      by : (s : Standing) (a : Kind) (f : Form) → is_variable s ≡ true → x.kind ≡ a → x.form ≡ f → HasPlace s a f → GoesWith P x.depth a f → IsVariable
-      by standing.Variable (k.Of s) (form.Located q) is kind form place goes = record { sort = s; at = q; kind = kind; form = form; same = goes.sort; deep = omega (arith, h.few, goes.deep); good = goes.good }
+      by : (s : Standing) (a : Kind) (f : Form) → is_variable s ≡ true → x.kind ≡ a → x.form ≡ f → HasPlace s a f → GoesWith P x.depth a f → IsVariable ⊎ IsOpened
+      by standing.Variable (k.Of s) (form.Located q) is kind form place goes = inl (record { sort = s; at = q; kind = kind; form = form; same = goes.sort; deep = omega (arith, h.few, goes.deep); good = goes.good })
+      by standing.Variable (k.Open s) (form.Open a) is kind form place goes = inr (record { sort = s; array = a; kind = kind; form = form; opens = goes })
+      by standing.Variable (k.Open s) _ is kind form place goes = absurd goes
       by standing.Variable _ _ is kind form place goes = absurd place
       by _ a f is kind form place goes = cc
+
+  -- it is a place where a test of its kind refuses open arrays
+  pub place_is : (test : Kind → Bool) → ((s : ℕ) → test (k.Open s) ≡ false) → IsFound P x → is_variable x.standing ≡ true → test x.kind ≡ true → IsVariable
+  place_is test refuses h is so = elim (variable_is h is) [ inl v ↦ v | inr o ↦ absurd (true≢false (sym so ∙ ap test o.kind ∙ refuses o.sort)) ]
 
   -- whose type has a kind
   abbrev pub cell_of : IsVariable → RKind → Cell

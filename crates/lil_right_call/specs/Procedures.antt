@@ -1,5 +1,5 @@
 -- Standard procedures of told arguments: they are sound statements.
-use Rattle.std.proofs.Common.{◌≡◌, ℕ, suc, ◌≤◌, Bool, true, false, not, List, [], ◌∷◌, length, Option, Some, None, IfSome, if◌then◌else◌, refl, sym, ap, subst, ◌∙◌, arith, true≢false}
+use Rattle.std.proofs.Common.{◌≡◌, ℕ, suc, ◌≤◌, Bool, true, false, not, List, [], ◌∷◌, length, Option, Some, None, IfSome, if◌then◌else◌, refl, sym, ap, subst, ◌∙◌, arith, true≢false, inl, inr}
 use Rattle.std.specs.Prelude.{pos, ◌==◌, ◌&&◌, max, is_none}
 use Rattle.std.proofs.lemmas.{Option.same_Some, Bool.{not-true, or_parts, Decides.nat_tests}}
 use Rattle.lil_base.specs.declared.fault.Place.{Place}
@@ -17,7 +17,8 @@ use Rattle.lil_scope.specs.declared.thing.Kind.{Kind}
 use Rattle.lil_scope.specs.declared.thing.Kind.TheVariants as k
 use Rattle.lil_kinds.specs.{Forms.{span_of, target}, Kinds.{is_ordinal, suits, compatible}, declared.found.Found.Found}
 use Rattle.lil_forms.specs.{Properties.{Property, Reach}, Scopes.Fits, Soundness.soundness, StatementSound.{StatementSound, made_sound}, Values.{constant, typed, typed_by}}
-use Rattle.lil_forms.specs.Statements.{located_in, changed_by, changed_with, changed, changed_at, changed_by_one, turned_by, turned_in, turned_at, turned, created_as, created_at, created, disposed_at, disposed}
+use Rattle.lil_forms.specs.Places.{located_in}
+use Rattle.lil_forms.specs.Statements.{changed_by, changed_with, changed, changed_at, changed_by_one, turned_by, turned_in, turned_at, turned, created_as, created_at, created, disposed_at, disposed}
 use Rattle.lil_call.specs.{declared.call.Argument.Argument, Passing.is_variable}
 use Rattle.lil_call.specs.Procedures.{is_function, takes_count, standard_node, no_value, base_of_set, is_of_wrong_type, is_no_pointer, variable_node, counted_in, is_no_element, is_wrong_operand, operand_node, deep_node, done_if, variable_statement, operand_statement, no_argument, with_variable, with_operand, by_one, by_two, by_all, procedure_if, procedure_mean}
 use Rattle.lil_call.specs.declared.call.Argument.TheVariants as argument
@@ -167,6 +168,23 @@ module _ {t : Table} {vs : RNamed → Option RVar} {around : List ℕ} {R : Reac
   unfolding operand_node
   operand_right of v y clear = (λ i. not (clear.0 i) && not (clear.1.0 i), clear.0)
 
+  -- the tests leave no open array
+  variable_of : (of : Standard) (x : Found) (n : ℕ) (c : Bool) → is_function of ≡ false → takes_count of (suc n) ≡ true → IsFound P x → Changes t of x c → IsVariable P x
+  unfolding is_ordinal
+  variable_of of x n c no_function count h changes = elim (variable_is P x h changes.variable) [
+    | inl v ↦ v
+    | inr o ↦ absurd (refused of o.sort no_function count (sym (ap (is_of_wrong_type t of) o.kind) ∙ changes.type) (sym (ap (is_no_pointer t of) o.kind) ∙ changes.pointer))
+  ]
+    where
+      refused : (of : Standard) (s : ℕ) → is_function of ≡ false → takes_count of (suc n) ≡ true → is_of_wrong_type t of (k.Open s) ≡ false → is_no_pointer t of (k.Open s) ≡ false → ⊥
+      refused standard.Inc s no_function count type pointer = true≢false type
+      refused standard.Dec s no_function count type pointer = true≢false type
+      refused standard.Incl s no_function count type pointer = true≢false type
+      refused standard.Excl s no_function count type pointer = true≢false type
+      refused standard.New s no_function count type pointer = true≢false pointer
+      refused standard.Dispose s no_function count type pointer = true≢false pointer
+      refused _ s no_function count type pointer = grind (arith, nat_tests, no_function, count)
+
   variable_done : (of : Standard) (x : Found) (c : Bool) → is_function of ≡ false → takes_count of 1 ≡ true → IsVariable P x → Changes t of x c → IsDone (variable_statement t of (located_in x.form))
   variable_done standard.Inc x c no_function count v h = changed_by_one_done x v Up (is_so _ (or_parts _ false h.type).0)
   variable_done standard.Dec x c no_function count v h = changed_by_one_done x v Down (is_so _ (or_parts _ false h.type).0)
@@ -186,14 +204,14 @@ module _ {t : Table} {vs : RNamed → Option RVar} {around : List ℕ} {R : Reac
     with_variable_right x count h =
         after_right (Changes t of x) IsDone (variable_node t of x) _ (variable_right of x) (λ a i.
         after_right (λ c. c ≡ true) IsDone (deep_node p x.depth) _ (deep_right p x.depth) (λ b j clear.
-        done (a && b) _ (λ n. i.so n && j n) (variable_done of x a no_function count (variable_is P x h i.variable) i)))
+        done (a && b) _ (λ n. i.so n && j n) (variable_done of x a no_function count (variable_of of x 0 a no_function count h i) i)))
 
     with_operand_right : (x y : Found) (n : ℕ) → takes_count of (suc (suc n)) ≡ true → IsFound P x → IsFound P y → IsRight (with_operand t p of x y)
     with_operand_right x y n count h g =
         after_right (Changes t of x) IsDone (variable_node t of x) _ (variable_right of x) (λ a i.
         after_right (Takes t of x.kind y) IsDone (operand_node t of x.kind y) _ (operand_right of x.kind y) (λ b j.
         after_right (λ c. c ≡ true) IsDone (deep_node p (max x.depth y.depth)) _ (deep_right p (max x.depth y.depth)) (λ c l clear.
-        done (a && (b && c)) _ (λ n. i.so n && (j.0 n && l n)) (operand_done of x y n a b no_function count (variable_is P x h i.variable) g i j))))
+        done (a && (b && c)) _ (λ n. i.so n && (j.0 n && l n)) (operand_done of x y n a b no_function count (variable_of of x (suc n) a no_function count h i) g i j))))
 
     by_one_right : (a : Argument) → takes_count of 1 ≡ true → ArgumentTold P a → IsRight (by_one t p of a)
     unfolding no_value

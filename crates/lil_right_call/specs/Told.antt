@@ -2,7 +2,7 @@
 use Rattle.std.proofs.Common.{◌≡◌, ◌⊎◌, inl, inr, ℕ, ◌<◌, true, false, List, [], ◌∷◌, Option, Some, None, refl}
 use Rattle.lil_types.specs.Types.{Table}
 use Rattle.lil_declared.specs.declared.declared.RVar.{RVar}
-use Rattle.lil_scope.specs.Built.{standard_built, resident_built}
+use Rattle.lil_scope.specs.Built.{resident_built}
 use Rattle.lil_kinds.specs.Forms.{parameters, result}
 use Rattle.lil_resolved.specs.declared.resolved.RNamed.{RNamed}
 use Rattle.lil_shapes.specs.{ListLaws.AllFine, Pointers.lies_at}
@@ -42,11 +42,11 @@ module _ {t : Table} {vs : RNamed → Option RVar} {around : List ℕ} {R : Reac
       by (argument.Type p (Some s)) h (inl all) = inl (h, all)
       by (argument.Type p (Some s)) h (inr none) = inr none
 
--- procedures of the text are called if names reach them, by their types, where both their numbers are bytes, and of the others what is built.
--- Resident procedures are proper ones
+-- procedures of the text are called if names reach them, by their types, where both their numbers are bytes, and of the resident ones, which
+-- are proper procedures, what is built
 abbrev pub CalleeTold : Table → Reach → Callee → Type 0
 CalleeTold t R (callee.Procedure s n levels) = HeadingTold t s × R s n levels × (n < 255) × (levels < 256)
 CalleeTold t R (callee.Variable s d) = lies_at t s ≡ true
 CalleeTold t R (callee.Resident r s) = (parameters t s ≡ signature r) × (result t s ≡ None) × (resident_built r ≡ true)
-CalleeTold t R (callee.Standard of) = standard_built of ≡ true
+CalleeTold t R (callee.Standard of) = Unit {0}
 CalleeTold t R callee.Other = Unit {0}

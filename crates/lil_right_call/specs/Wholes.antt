@@ -60,7 +60,8 @@ module _ {t : Table} {vs : RNamed → Option RVar} {around : List ℕ} {R : Reac
   suited d (k.Of r) (form.Located q) fine goes so = record { at = q; is = refl; lies = subst (λ n. LiesAt P n d q) (same_type r fine so) goes }
   suited d (k.Of r) (form.Value x) fine goes so = absurd (other_base (base t r) goes.as_kind.base (kind_base t r goes.as_kind goes.at) so)
   suited d (k.Of r) _ fine goes so = absurd goes
-  suited d _ f fine goes so = absurd fine
+  suited d (k.Open r) f fine goes so = cc
+  suited d (k.Routine r) f fine goes so = absurd fine
 
   passed : (d : ℕ) (kind : Kind) (f : Form) → KindTold t kind → GoesWith P d kind f → passes t s kind ≡ true → IsSpelled kind f
   unfolding passes
@@ -70,7 +71,8 @@ module _ {t : Table} {vs : RNamed → Option RVar} {around : List ℕ} {R : Reac
   passed d (k.Chars c) _ fine goes so = absurd goes
   passed d k.Nil f fine goes so = cc
   passed d (k.Of r) f fine goes so = absurd (no_whole (both_left (is_whole t s) _ so))
-  passed d _ f fine goes so = absurd fine
+  passed d (k.Open r) f fine goes so = cc
+  passed d (k.Routine r) f fine goes so = absurd fine
 
   pub whole_or_spelled : (d : ℕ) (kind : Kind) (f : Form) → KindTold t kind → GoesWith P d kind f → assignable t s kind ≡ true → IsWhole d f ⊎ IsSpelled kind f
   unfolding assignable compatible

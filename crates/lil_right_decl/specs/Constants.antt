@@ -42,7 +42,7 @@ module _ (e : Env) (h : Declared e) where
   kind_meant d (k.Chars c) _ is told goes = absurd goes
   kind_meant d k.Nil f is told goes = absurd (true≢false (sym is))
   kind_meant d (k.Of s) f is told goes = absurd (true≢false (sym is))
-  kind_meant d (k.Open s) f is told goes = absurd told
+  kind_meant d (k.Open s) f is told goes = absurd (true≢false (sym is))
   kind_meant d (k.Routine s) f is told goes = absurd told
 
 module _ (e : Env) (f : Form) (kind : Kind) where

@@ -1,7 +1,6 @@
 -- Headings in which no test finds a fault: a procedure with its parameters, and what is declared inside of it.
 use Rattle.std.proofs.Common.{◌≡◌, ℕ, ◌+◌, ◌<◌, Bool, true, false, List, [], ◌∷◌, ◌++◌, length, slice_get, Option, Some, None, IfSome, if◌then◌else◌, refl, sym, ap, subst, ◌∙◌, ⊎_elim, arith, true≢false, length-append}
 use Rattle.std.specs.Prelude.{is_none, is_some, ◌||◌}
-use Rattle.std.specs.List.{list_any}
 use Rattle.std.proofs.lemmas.{Bool.Decides.nat_tests, List.length_push, Option.slice_get_within}
 use Rattle.lil_text.specs.declared.tree.{Qualident.Qualident}
 use Rattle.lil_language.specs.declared.{tree.Stmt.Stmt, unit.{Heading.Heading}}
@@ -17,16 +16,16 @@ use Rattle.lil_forms.specs.Scopes.{fine_more}
 use Rattle.lil_scope.specs.{Names.{Names, look_in, inner_or, block_by, block_at, find_in, bound, bound_at, bind_at, with_local, locals_in, inside, entered, outside, level, chain}, declared.{env.Env.Env, thing.{Entry.Entry, Thing.Thing, Variable.Variable}}}
 use Rattle.lil_scope.specs.declared.thing.Thing.TheVariants as thing
 use Rattle.lil_scope.specs.Names as names
-use Rattle.lil_check_value.specs.{Looks.{type_named, not_built}}
+use Rattle.lil_check_value.specs.{Looks.{type_named}}
 use Rattle.lil_check_type.specs.{declared.{named.NamedType.{NamedType, TheVariants.{Absent, Given, Faulty}}, routines.Parameters.Parameters}, Made.{Made, type_node, form_node}, Records.{is_structure, no_parameters, result_node, result_means, procedure_form}}
-use Rattle.lil_check_decl.specs.{Decls.{Means, procedure_means}, Headings.{Headed, section_step, home_at, procedure_thing, with_procedure, numbered_node, named_means, is_open, any_open, heading_means}}
+use Rattle.lil_check_decl.specs.{Decls.{Means, procedure_means}, Headings.{Headed, section_step, home_at, procedure_thing, with_procedure, numbered_node, named_means, heading_means}}
 use Rattle.lil_check_stmt.specs.Texts.{Texts}
-use Rattle.lil_right_type.specs.{Right.{Clear, Right, after_right, clear_left, clear_right}, Types.{IsTold, meant_is}, Found.{ParameterTold, ResultTold, HeadingTold, AreHeaded}, Homes.{HasPassing, IsHome, OnPath, IsParameter, Longer, last_locals, homed_procedure, stands_stays, stands_inside}}
+use Rattle.lil_right_type.specs.{Right.{Clear, Right, after_right, clear_left, clear_right}, Types.{IsTold, meant_is}, Found.{ParameterTold, ResultTold, HeadingTold, AreHeaded}, Homes.{IsHome, OnPath, IsParameter, Longer, last_locals, homed_procedure, stands_stays, stands_inside}}
 use Rattle.lil_right_type.specs.Homes as homes
 use Rattle.lil_right_value.specs.Names.{Lies, Told, look_is, bound_at_is}
 use Rattle.lil_right_sort.specs.{Growth.{all_then, fine_at, Few, few_before, added_grown, grown_kept, added_entry, entry_below, entry_shape, parameter_stays, result_stays, shape_parameters, last_there, IsIn, AllLie, AllHeaded, HasHeading, Declared, declared_added}, Simple.{Begun, walk_keeps}}
 use Rattle.lil_right_decl.specs.Constants.{Behind}
-use Rattle.lil_right_decl.specs.Parameters.{local_same, paired_lie, paired_headed, all_built, k, with_parts, IsNamed, ArePassed, IsHeading, none_yet, type_there, section_right}
+use Rattle.lil_right_decl.specs.Parameters.{local_same, paired_lie, paired_headed, k, with_parts, IsNamed, ArePassed, IsHeading, none_yet, type_there, section_right}
 
 -- ---- what is declared behind something, with the procedures of these texts, each of which has a block
 abbrev pub IsText : Option (List Stmt) → Type 0
@@ -126,7 +125,7 @@ module _ (e : Env) (begun : Begun e) (h : Heading) where
   abbrev headed : Parameters → Option ℕ → List Names → List (List RVar) → ℕ → Env
   headed ps r bs ls n = with_procedure h.name.name (k e) (Some n) (names.with_blocks (record (with_parts e bs ls) { types = u ps r }) (bound_at bs e.scopes.inner h.name.name (names.entry (procedure_thing (k e) (Some n) e) h.name.place)))
 
-  module _ (ps : Parameters) (r : Option ℕ) (bs : List Names) (ls : List (List RVar)) (n : ℕ) (given : added_number e.types (typed ps r) ≡ Some n) (room : length e.procedures < 250) (few : Few (u ps r)) (p : ArePassed e bs ls ps) (none : list_any is_open ps.list ≡ false) (returns : ResultTold e.types r) where
+  module _ (ps : Parameters) (r : Option ℕ) (bs : List Names) (ls : List (List RVar)) (n : ℕ) (given : added_number e.types (typed ps r) ≡ Some n) (room : length e.procedures < 250) (few : Few (u ps r)) (p : ArePassed e bs ls ps) (returns : ResultTold e.types r) where
     before : Declared e
     before = begun (few_before e.types (u ps r) (added_grown e.types (own e.types) (typed ps r)) few)
 
@@ -137,10 +136,9 @@ module _ (e : Env) (begun : Begun e) (h : Heading) where
     d = declared_added e before (own e.types) (typed ps r) tt few
 
     built : AllFine (ParameterTold (u ps r)) ps.list
-    built = all_then (ParameterTold e.types) (ParameterTold (u ps r)) (parameter_stays e.types (u ps r) before.told.types (grown_kept e.types (u ps r) (added_grown e.types (own e.types) (typed ps r)))) ps.list
-        (all_built e.types ps.list p.lie none)
+    built = all_then (ParameterTold e.types) (ParameterTold (u ps r)) (parameter_stays e.types (u ps r) before.told.types (grown_kept e.types (u ps r) (added_grown e.types (own e.types) (typed ps r)))) ps.list p.lie
 
-    lie : AllLie HasPassing (u ps r) p.own
+    lie : AllLie (u ps r) p.own
     lie = paired_lie (u ps r) ps.list p.own p.paired built
 
     its_entry : (f : Facts) × (entry (u ps r) n ≡ Some (record { origin = own e.types; form = typed ps r; facts = f }))
@@ -156,21 +154,21 @@ module _ (e : Env) (begun : Begun e) (h : Heading) where
     below = entry_below (u ps r) n _ its_entry.1
 
     -- names of the block are those of the parameters
-    it_lies : (v : Variable) (its : RVar) → slice_get p.own v.number ≡ Some its → (lies_at (u ps r) its.sort ≡ true) × HasPassing its.mode
-    it_lies v its there = fine_at (λ (v : RVar). (lies_at (u ps r) v.sort ≡ true) × HasPassing v.mode) p.own v.number its lie there
+    it_lies : (v : Variable) (its : RVar) → slice_get p.own v.number ≡ Some its → lies_at (u ps r) its.sort ≡ true
+    it_lies v its there = fine_at (λ (v : RVar). lies_at (u ps r) v.sort ≡ true) p.own v.number its lie there
 
     parameter : (m : List ℕ) (x : Thing) → look_in p.block m ≡ Some x → IsParameter p.own (length e.scopes.outer + 1) x
     parameter m x is = by x (subst (λ (o : Option Thing). IfSome o (IsNamed e p.own)) is (look_is (IsNamed e p.own) p.block m p.named))
       where
         by : (x : Thing) → IsNamed e p.own x → IsParameter p.own (length e.scopes.outer + 1) x
-        by (thing.Variable v) j = (j.0, subst HasPassing j.1.3 (it_lies v j.1.0 j.1.1).1, j.1)
+        by (thing.Variable v) j = j
         by _ j = absurd j
 
     abbrev its : RProc
     its = homes.own e.scopes.blocks e.procedures e.variables e.locals e.scopes.outer e.scopes.inner e.procedure d.told.homed d.told.stands room h.name.name n p.block p.own parameter
 
     name_told : (x : Thing) → IsNamed e p.own x → Told base x × IsIn (u ps r) x
-    name_told (thing.Variable v) j = let l = it_lies v j.1.0 j.1.1 in ((subst HasPassing j.1.3 l.1, sym (ap (lies_at (u ps r)) j.1.2) ∙ l.0), tt)
+    name_told (thing.Variable v) j = (sym (ap (lies_at (u ps r)) j.1.2) ∙ it_lies v j.1.0 j.1.1, tt)
     name_told _ j = absurd j
 
     abbrev new : Entry
@@ -181,7 +179,7 @@ module _ (e : Env) (begun : Begun e) (h : Heading) where
         (λ (old : slice_get e.procedures i ≡ Some q). subst (λ (vs : List RVar). AreHeaded (parameters (u ps r) q.sort) vs) (sym (local_same e.locals p.own i (omega (arith, slice_get_within e.procedures i q old, d.told.homed.each)))) (d.headed i q old))
         (λ (new : (i ≡ length e.procedures) × (its ≡ q)). subst (λ (q : RProc). AreHeaded (parameters (u ps r) q.sort) (locals_in (e.locals ++ p.own ∷ []) i)) new.1
         (subst (λ (vs : List RVar). AreHeaded (parameters (u ps r) n) vs) (sym (ap (locals_in (e.locals ++ p.own ∷ [])) (new.0 ∙ sym d.told.homed.each) ∙ last_locals p.own e.locals))
-        (subst (λ (xs : List Parameter). AreHeaded xs p.own) (sym signature.0) (paired_headed (u ps r) ps.list p.own p.paired built))))
+        (subst (λ (xs : List Parameter). AreHeaded xs p.own) (sym signature.0) (paired_headed ps.list p.own p.paired))))
         (at_end e.procedures its q i is)
 
     last_declared : Declared (headed ps r (e.scopes.blocks ++ p.block ∷ []) (e.locals ++ p.own ∷ []) n)
@@ -194,7 +192,7 @@ module _ (e : Env) (begun : Begun e) (h : Heading) where
         stands = stands_stays e.procedures (e.procedures ++ its ∷ []) (λ i q is. earlier e.procedures (its ∷ []) i q is) e.scopes.outer e.scopes.inner e.procedure (omega (arith, length_push e.procedures its)) d.told.stands;
       };
       residents = bound_at_is (IsIn (u ps r)) (e.scopes.blocks ++ p.block ∷ []) e.scopes.inner h.name.name new (fine_more _ e.scopes.blocks p.block d.residents (all_then _ _ (λ (x : List ℕ × Entry) j. (name_told x.1.thing j).1) p.block p.named)) below;
-      variables = (d.variables.0, fine_more (AllLie HasPassing (u ps r)) e.locals p.own d.variables.1 lie);
+      variables = (d.variables.0, fine_more (AllLie (u ps r)) e.locals p.own d.variables.1 lie);
       headings = fine_more (HasHeading (u ps r)) e.procedures its d.headings (below, heading);
       headed = all_headed;
     }
@@ -203,7 +201,7 @@ module _ (e : Env) (begun : Begun e) (h : Heading) where
     headed_told = subst (λ (ls : List (List RVar)). Declared (headed ps r bs ls n)) (sym p.locals_are) (subst (λ (bs : List Names). Declared (headed ps r bs (e.locals ++ p.own ∷ []) n)) (sym p.blocks_are) last_declared)
 
   -- ---- behind its parameters, and its result
-  module _ (ps : Parameters) (bs : List Names) (ls : List (List RVar)) (told : Few e.types → ArePassed e bs ls ps) (none : list_any is_open ps.list ≡ false) where
+  module _ (ps : Parameters) (bs : List Names) (ls : List (List RVar)) (told : Few e.types → ArePassed e bs ls ps) where
     abbrev f : Env
     f = with_parts e bs ls
 
@@ -221,7 +219,7 @@ module _ (e : Env) (begun : Begun e) (h : Heading) where
     named_right r returns m made = subst (λ (m : Made). Right (IsHeaded e) (named_means (k e) h.name m)) (sym made.is) (λ clear.
         let room : length e.procedures < 250 = grind (arith, nat_tests, clear.1.0) in
         let before = few_before e.types (u ps r) (added_grown e.types (own e.types) (typed ps r)) in
-        record { its = _; procedures = refl; procedure = refl; few = before; told = λ few. headed_told ps r bs ls made.number made.given room few (told (before few)) none (returns (before few)) })
+        record { its = _; procedures = refl; procedure = refl; few = before; told = λ few. headed_told ps r bs ls made.number made.given room few (told (before few)) (returns (before few)) })
 
     -- without a type where a parameter or the result has a fault
     broken_right : (Few e.types → ⊥) → Right (IsHeaded e) (named_means (k e) h.name (f, None))
@@ -250,20 +248,16 @@ module _ (e : Env) (begun : Begun e) (h : Heading) where
     result_right at None lies clear = lies
     result_right at (Some r) lies clear = subst (λ c. IsResult (if c then Faulty else Given r)) (sym clear.0) (λ few. result_told e.types (begun few).told.types r (lies few) clear.0)
 
-  parts_right : (q : Headed) → IsHeading e q → (r : Option Qualident) → Right (IsHeaded e) (not_built (any_open q.1.list) h.place (after (after (result_means q.0 r) (λ n. form_node q.0 h.place (procedure_form q.1 n))) (named_means (k e) h.name)))
-  unfolding not_built
-  parts_right q j r clear = both_right (IsResult q.1 j.blocks j.locals j.told none) (IsHeaded e) (result_means q.0 r) (λ n. form_node q.0 h.place (procedure_form q.1 n)) (named_means (k e) h.name) (its r) rest clear.1
+  parts_right : (q : Headed) → IsHeading e q → (r : Option Qualident) → Right (IsHeaded e) (after (after (result_means q.0 r) (λ n. form_node q.0 h.place (procedure_form q.1 n))) (named_means (k e) h.name))
+  parts_right q j r = both_right (IsResult q.1 j.blocks j.locals j.told) (IsHeaded e) (result_means q.0 r) (λ n. form_node q.0 h.place (procedure_form q.1 n)) (named_means (k e) h.name) (its r) rest
     where
-      none : list_any is_open q.1.list ≡ false
-      none = clear.0
+      rest : (n : NamedType) → IsResult q.1 j.blocks j.locals j.told n → Right (IsHeaded e) (after (form_node q.0 h.place (procedure_form q.1 n)) (named_means (k e) h.name))
+      rest n i = subst (λ (g : Env). Right (IsHeaded e) (after (form_node g h.place (procedure_form q.1 n)) (named_means (k e) h.name))) (sym j.is) (formed_right q.1 j.blocks j.locals j.told n i)
 
-      rest : (n : NamedType) → IsResult q.1 j.blocks j.locals j.told none n → Right (IsHeaded e) (after (form_node q.0 h.place (procedure_form q.1 n)) (named_means (k e) h.name))
-      rest n i = subst (λ (g : Env). Right (IsHeaded e) (after (form_node g h.place (procedure_form q.1 n)) (named_means (k e) h.name))) (sym j.is) (formed_right q.1 j.blocks j.locals j.told none n i)
-
-      its : (r : Option Qualident) → Right (IsResult q.1 j.blocks j.locals j.told none) (result_means q.0 r)
+      its : (r : Option Qualident) → Right (IsResult q.1 j.blocks j.locals j.told) (result_means q.0 r)
       its None = λ clear. tt
-      its (Some x) = after_right (λ o. Few e.types → Lies e.types o) (IsResult q.1 j.blocks j.locals j.told none) (type_named q.0 x) (result_node q.0.types x.name.place) (type_there e begun q j x)
-          (λ o lies. subst (λ (t : Table). Right (IsResult q.1 j.blocks j.locals j.told none) (result_node t x.name.place o)) (sym (ap (λ (g : Env). g.types) j.is)) (result_right q.1 j.blocks j.locals j.told none x.name.place o lies))
+      its (Some x) = after_right (λ o. Few e.types → Lies e.types o) (IsResult q.1 j.blocks j.locals j.told) (type_named q.0 x) (result_node q.0.types x.name.place) (type_there e begun q j x)
+          (λ o lies. subst (λ (t : Table). Right (IsResult q.1 j.blocks j.locals j.told) (result_node t x.name.place o)) (sym (ap (λ (g : Env). g.types) j.is)) (result_right q.1 j.blocks j.locals j.told x.name.place o lies))
 
   pub heading_right : Right (IsHeaded e) (heading_means e h)
   heading_right = after_right (IsHeading e) (IsHeaded e) (walk (section_step (home_at e (k e))) (names.begun e, no_parameters) h.sections) _

@@ -1,18 +1,17 @@
 -- The parameters of a heading, in the block and among the variables of the next procedure.
-use Rattle.std.proofs.Common.{◌≡◌, ℕ, zero, suc, ◌+◌, ◌<◌, inl, inr, Bool, true, false, not, ◌&&◌, ◌||◌, List, [], ◌∷◌, ◌++◌, length, slice_get, Option, Some, None, IfSome, if◌then◌else◌, refl, sym, ap, subst, ◌∙◌, arith, true≢false}
+use Rattle.std.proofs.Common.{◌≡◌, ℕ, zero, suc, ◌+◌, ◌<◌, inl, inr, true, not, ◌&&◌, ◌||◌, List, [], ◌∷◌, ◌++◌, length, slice_get, Option, Some, None, IfSome, if◌then◌else◌, refl, sym, ap, subst, ◌∙◌, arith, true≢false}
 use Rattle.std.specs.Prelude.{is_some, nat_lt, slice_set}
-use Rattle.std.specs.List.{list_any}
-use Rattle.std.proofs.lemmas.{Bool.{or_parts, Decides.nat_tests}, List.length_push}
+use Rattle.std.proofs.lemmas.{Bool.Decides.nat_tests, List.length_push}
 use Rattle.lil_base.specs.declared.fault.Place.{Place}
 use Rattle.lil_text.specs.declared.tree.{Ident.Ident, Qualident.Qualident}
 use Rattle.lil_language.specs.declared.{unit.{Section.Section}}
 use Rattle.lil_types.specs.{Types.{Table, entry}, Adding.{own}, declared.table.{Parameter.Parameter, TypeEntry.TypeEntry, TypeForm.TypeForm}}
 use Rattle.lil_types.specs.declared.table.TypeForm.TheVariants as form
-use Rattle.lil_declared.specs.declared.declared.{Mode.Mode, RVar.RVar}
+use Rattle.lil_declared.specs.{Modes.mode_of, declared.declared.RVar.RVar}
 use Rattle.lil_resolved.specs.declared.resolved.RKind.{RKind}
 use Rattle.lil_report.specs.Told.{Row, after, walk}
 use Rattle.lil_kinds.specs.Forms.{form_in, of_form, is_form, array_of, array_parts, is_record_form, is_record, shape}
-use Rattle.lil_shapes.specs.{Bases.{kind_at, is_composite, composite_by, composite_at}, ListLaws.AllFine, Pointers.lies_at, Shaping.passing_of, ShapeSound.{earlier}}
+use Rattle.lil_shapes.specs.{Bases.{kind_at, is_composite, composite_by, composite_at}, ListLaws.AllFine, Pointers.lies_at, ShapeSound.{earlier}}
 use Rattle.lil_forms.specs.Scopes.{fine_more}
 use Rattle.lil_forms.specs.Variables.{passing_by}
 use Rattle.lil_scope.specs.{Names.{Names, look_in, inner_or, block_by, block_at, find_in, bound, bound_at, bind_at, with_local, locals_in, inside, entered, outside, level, chain}, declared.{env.Env.Env, thing.{Entry.Entry, Thing.Thing}}}
@@ -21,8 +20,8 @@ use Rattle.lil_scope.specs.Names as names
 use Rattle.lil_check_value.specs.{declared.names.Looked.{Looked, TheVariants.{Thing as Declared_as}}, Looks.{nearest, looked_as, or_declared, look, module_of, module_node, member_type, type_by, type_named}}
 use Rattle.lil_check_value.specs.Looks.{type_node as type_of_name}
 use Rattle.lil_check_type.specs.{declared.routines.Parameters.Parameters, Records.{is_structure, sort_or, no_parameters, with_parameter}}
-use Rattle.lil_check_decl.specs.{declared.home.Home.Home, Headings.{variable_thing, with_variable, mode_of, section_home, Headed, parameter_step, section_step, home_at, is_open}}
-use Rattle.lil_right_type.specs.{Right.{Right, after_right}, Found.{ParameterTold, AreHeaded, EnvTold}, Homes.{HasPassing, IsHome, OnPath, last_locals}, Types.{IsTold, meant_is}}
+use Rattle.lil_check_decl.specs.{declared.home.Home.Home, Headings.{variable_thing, with_variable, section_home, Headed, parameter_step, section_step, home_at}}
+use Rattle.lil_right_type.specs.{Right.{Right, after_right}, Found.{ParameterTold, AreHeaded, EnvTold}, Homes.{IsHome, OnPath, last_locals}, Types.{IsTold, meant_is}}
 use Rattle.lil_right_value.specs.Names.{Lies, LookTold, look_told, named_lies, bound_is}
 use Rattle.lil_right_sort.specs.{Growth.{all_then, Few, last_there, AllLie}, Simple.{Begun, walk_keeps}}
 
@@ -63,40 +62,23 @@ find_same bs b (k ∷ ks) n low = λ i. inner_or (find_same bs b ks n low.1 i) (
 -- ---- parameters and their variables, one for each
 abbrev pub ArePaired : List Parameter → List RVar → Type 0
 ArePaired [] [] = Unit {0}
-ArePaired (p ∷ ps) (v ∷ vs) = (v.sort ≡ p.sort) × (v.mode ≡ mode_of p.by_place p.open_array) × ArePaired ps vs
+ArePaired (p ∷ ps) (v ∷ vs) = (v.sort ≡ p.sort) × (v.mode ≡ passing_by p) × ArePaired ps vs
 ArePaired _ _ = ⊥
 
-paired_more : (ps : List Parameter) (vs : List RVar) (p : Parameter) (v : RVar) → ArePaired ps vs → v.sort ≡ p.sort → v.mode ≡ mode_of p.by_place p.open_array → ArePaired (ps ++ p ∷ []) (vs ++ v ∷ [])
+paired_more : (ps : List Parameter) (vs : List RVar) (p : Parameter) (v : RVar) → ArePaired ps vs → v.sort ≡ p.sort → v.mode ≡ passing_by p → ArePaired (ps ++ p ∷ []) (vs ++ v ∷ [])
 paired_more [] [] p v h sort mode = (sort, mode, tt)
 paired_more (q ∷ ps) (w ∷ vs) p v h sort mode = (h.0, h.1, paired_more ps vs p v h.2 sort mode)
 paired_more _ _ p v h sort mode = absurd h
 
-module _ (t : Table) where
-  its_mode : (p : Parameter) → ParameterTold t p → mode_of p.by_place p.open_array ≡ passing_by p.by_place
-  its_mode p h = ap (mode_of p.by_place) h.closed ∙ by p.by_place
-    where
-      by : (c : Bool) → mode_of c false ≡ passing_by c
-      by true = refl
-      by false = refl
+pub paired_lie : (t : Table) (ps : List Parameter) (vs : List RVar) → ArePaired ps vs → AllFine (ParameterTold t) ps → AllLie t vs
+paired_lie t [] [] h all = tt
+paired_lie t (p ∷ ps) (v ∷ vs) h all = (ap (lies_at t) h.0 ∙ all.0, paired_lie t ps vs h.2 all.1)
+paired_lie t _ _ h all = absurd h
 
-  has_passing : (c : Bool) (m : Mode) → m ≡ passing_by c → HasPassing m
-  has_passing true m is = (_, ap passing_of is)
-  has_passing false m is = (_, ap passing_of is)
-
-  pub paired_lie : (ps : List Parameter) (vs : List RVar) → ArePaired ps vs → AllFine (ParameterTold t) ps → AllLie HasPassing t vs
-  paired_lie [] [] h all = tt
-  paired_lie (p ∷ ps) (v ∷ vs) h all = ((ap (lies_at t) h.0 ∙ all.0.lies, has_passing p.by_place v.mode (h.1 ∙ its_mode p all.0)), paired_lie ps vs h.2 all.1)
-  paired_lie _ _ h all = absurd h
-
-  pub paired_headed : (ps : List Parameter) (vs : List RVar) → ArePaired ps vs → AllFine (ParameterTold t) ps → AreHeaded ps vs
-  paired_headed [] [] h all = tt
-  paired_headed (p ∷ ps) (v ∷ vs) h all = (h.0, h.1 ∙ its_mode p all.0, paired_headed ps vs h.2 all.1)
-  paired_headed _ _ h all = absurd h
-
--- ---- parameters that are no open arrays
-pub all_built : (t : Table) (ps : List Parameter) → AllFine (λ (p : Parameter). lies_at t p.sort ≡ true) ps → list_any is_open ps ≡ false → AllFine (ParameterTold t) ps
-all_built t [] lie none = tt
-all_built t (p ∷ ps) lie none = let parts = or_parts p.open_array _ none in (record { closed = parts.0; lies = lie.0 }, all_built t ps lie.1 parts.1)
+pub paired_headed : (ps : List Parameter) (vs : List RVar) → ArePaired ps vs → AreHeaded ps vs
+paired_headed [] [] h = tt
+paired_headed (p ∷ ps) (v ∷ vs) h = (h.0, h.1, paired_headed ps vs h.2)
+paired_headed _ _ h = absurd h
 
 -- ---- the parameters of a heading, around which is e
 module _ (e : Env) where
@@ -122,7 +104,7 @@ module _ (e : Env) where
     pub locals_are : ls ≡ e.locals ++ own ∷ []
     pub named : AreNamed own block
     pub paired : ArePaired ps.list own
-    pub lie : AllFine (λ (p : Parameter). lies_at e.types p.sort ≡ true) ps.list
+    pub lie : AllFine (ParameterTold e.types) ps.list
     pub right : ps.right ≡ true
 
   pub record IsHeading (q : Headed) : Type 0 where

@@ -6,7 +6,6 @@ use Rattle.lil_text.specs.declared.tree.Ident.{Ident}
 use Rattle.lil_types.specs.declared.table.Parameter.{Parameter}
 use Rattle.lil_kinds.specs.Forms.{parameters}
 use Rattle.lil_declared.specs.declared.declared.{Mode.TheVariants.Plain, RProc.RProc, RVar.RVar}
-use Rattle.lil_resolved.specs.declared.resolved.RPassing.TheVariants.{ByValue}
 use Rattle.lil_report.specs.Told.{after}
 use Rattle.lil_scope.specs.{Names.{bind_at, bound_at, entry, chain_by, chain, level, locals_in, locals_at, with_blocks, variables_of}, declared.{env.Env.Env}}
 use Rattle.lil_scope.specs.declared.thing.Thing.TheVariants as t
@@ -14,7 +13,7 @@ use Rattle.lil_shapes.specs.{ListLaws.AllFine, Pointers.lies_at, ShapeSound.earl
 use Rattle.lil_forms.specs.Scopes.{fine_more}
 use Rattle.lil_check_type.specs.Records.{sort_or}
 use Rattle.lil_check_decl.specs.{Headings.{and_variable, variable_thing, with_variable, variable_step, here}, declared.home.Home.Home}
-use Rattle.lil_right_type.specs.{Right.Right, Found.AreHeaded, Homes.{Longer, AllLonger, HasPassing, IsRooted, own_of}}
+use Rattle.lil_right_type.specs.{Right.Right, Found.AreHeaded, Homes.{Longer, AllLonger, IsRooted, own_of}}
 use Rattle.lil_right_value.specs.Names.{Lies}
 use Rattle.lil_right_sort.specs.{Growth.{Few, last_there, AllLie, Declared, variables_declared, bound_declared}, Simple.Follows}
 
@@ -57,7 +56,7 @@ module _ (P : List RVar → Type 0) where
 
 rooted : (chain : List ℕ) → IsRooted chain Plain
 rooted [] = refl
-rooted (n ∷ ns) = (ByValue, refl)
+rooted (n ∷ ns) = tt
 
 -- ---- a variable of a type in which something lies
 module _ (f : Env) (d : Declared f) (i : Ident) (n : ℕ) (lies : lies_at f.types n ≡ true) where
@@ -71,7 +70,7 @@ module _ (f : Env) (d : Declared f) (i : Ident) (n : ℕ) (lies : lies_at f.type
   among : (vs : List RVar) (ls : List (List RVar)) (x : ℕ) → Declared (record f { variables = vs; locals = ls }) → slice_get (own_of vs ls (chain f)) x ≡ Some its → Declared (record (named x) { variables = vs; locals = ls })
   among vs ls x more there =
       bound_declared (record f { variables = vs; locals = ls }) more f.scopes.inner i.name _
-      (((ByValue, refl), lies), (tt, record { chain = chain f; home = d.told.stands.path.own; level_is = d.told.stands.path.level_is; its = its; there = there; sort_is = refl; mode_is = refl; rooted = rooted (chain f) }))
+      (lies, (tt, record { chain = chain f; home = d.told.stands.path.own; level_is = d.told.stands.path.level_is; its = its; there = there; sort_is = refl; mode_is = refl; rooted = rooted (chain f) }))
 
   own_declared : (at : Option ℕ) → f.procedure ≡ at → Declared (and_variable at its (named (length (variables_of f at))))
   own_declared None is =
@@ -88,7 +87,7 @@ module _ (f : Env) (d : Declared f) (i : Ident) (n : ℕ) (lies : lies_at f.type
       subst (λ (ls : List (List RVar)). Declared (record (named (length own)) { locals = ls })) (ap (λ c. if c then ls else f.locals) (sym within))
       (among f.variables ls (length own)
       (variables_declared f d f.variables ls (λ j v there. there) (set_longer vs f.locals p (λ j v there. earlier own (its ∷ []) j v there)) (length-set f.locals p vs)
-      (d.variables.0, set_fine (AllLie HasPassing f.types) f.locals p vs d.variables.1 (fine_more _ own its (fine_in (AllLie HasPassing f.types) f.locals p d.variables.1 tt) (lies, (ByValue, refl))))
+      (d.variables.0, set_fine (AllLie f.types) f.locals p vs d.variables.1 (fine_more _ own its (fine_in (AllLie f.types) f.locals p d.variables.1 tt) lies))
       (set_each (λ n vs. (q : RProc) → slice_get f.procedures n ≡ Some q → AreHeaded (parameters f.types q.sort) vs) f.locals p vs d.headed (λ q is. headed_more (parameters f.types q.sort) own its (d.headed p q is) refl)))
       (ap (λ (o : Option ℕ). slice_get (own_of f.variables ls (chain_by f.procedures o)) (length own)) is ∙ ap (λ (vs : List RVar). slice_get vs (length own)) (set_there vs f.locals p less) ∙ last_there own its))
     where

@@ -6,7 +6,7 @@ use Rattle.lil_types.specs.{Types.{Table, entry, known, facts_in, meant, meant_b
 use Rattle.lil_types.specs.declared.table.{TypeEntry.TypeEntry, TypeForm.{TypeForm, TheVariants.{Enumeration, Subrange, Array, Record, SetOf, Pointer, Procedure, Opaque}}}
 use Rattle.lil_types.specs.Types as types
 use Rattle.lil_types.specs.Adding as adding
-use Rattle.lil_declared.specs.declared.declared.{Mode.Mode, RProc.RProc, RVar.RVar}
+use Rattle.lil_declared.specs.declared.declared.{RProc.RProc, RVar.RVar}
 use Rattle.lil_resolved.specs.declared.resolved.{RBase.RBase, RKind.RKind}
 use Rattle.lil_resolved.specs.declared.resolved.RBase.TheVariants as b
 use Rattle.lil_scope.specs.{declared.{env.{Env.Env, Wait.Wait}, thing.{Entry.Entry, Kind.Kind, Thing.Thing}}, Names.{bound_at, with_blocks, with_block, locals_in}}
@@ -15,7 +15,7 @@ use Rattle.lil_scope.specs.declared.thing.Thing.TheVariants as thing
 use Rattle.lil_kinds.specs.{Forms.{form_in, shape, span_in, is_routine_form, of_form, parameters, parameters_of, parameters_in, result, result_of}}
 use Rattle.lil_shapes.specs.{BaseLaws.kind_base, Bases.{plain, base_by, base_form, base_at, kind_over, kind_at, is_composite, composite_at, composite_by}, ListLaws.AllFine, Pointers.lies_at, ShapeSound.{at_end, earlier}}
 use Rattle.lil_forms.specs.Scopes.{fine_more}
-use Rattle.lil_right_type.specs.{Homes.{Longer, AllLonger, IsPlain, HasPassing, Allowed, homed_bound, homed_begun, homed_more}, Types.{HasNumbers, HasSpan, FormTold, IsTold, IsOrdinal, meant_is, own_base, known_ordinal, entry_known}, Words.{FormMeasured, AreMeasured}, Parts.base_itself, Found.{KindTold, ParameterTold, ResultTold, HeadingTold, AreHeaded, ThingTold, EnvTold}}
+use Rattle.lil_right_type.specs.{Homes.{Longer, AllLonger, IsPlain, Allowed, homed_bound, homed_begun, homed_more}, Types.{HasNumbers, HasSpan, FormTold, IsTold, IsOrdinal, meant_is, own_base, known_ordinal, entry_known}, Words.{FormMeasured, AreMeasured}, Parts.base_itself, Found.{KindTold, ParameterTold, ResultTold, HeadingTold, AreHeaded, ThingTold, EnvTold}}
 use Rattle.lil_right_value.specs.Names.{Told, bound_at_is}
 pub use Rattle.lil_right_type.specs.{Right.all_then, Homes.last_there}
 
@@ -188,6 +188,7 @@ module _ {to : ℕ} (t u : Table) (told : IsTold t) (kept : Kept to t u) where
   kind_told_stays : (k : Kind) → KindTold t k → KindTold u k
   kind_told_stays (k.Scalar s w) h = (h.0, under_stays s h.0 h.1, h.2, h.3)
   kind_told_stays (k.Of s) h = lies_stays s h
+  kind_told_stays (k.Open s) h = lies_stays s h
   kind_told_stays _ h = h
 
   same_heading : {A : Type 0} (part : Option TypeForm → A) → ((e : TypeEntry) (a : ℕ) → e.form ≡ Pointer a → part (Some (Pointer to)) ≡ part (Some e.form)) → (n : ℕ) → n < next t → part (shape u n) ≡ part (shape t n)
@@ -202,7 +203,7 @@ module _ {to : ℕ} (t u : Table) (told : IsTold t) (kept : Kept to t u) where
   same_signature s here = (same_heading parameters_in (λ e a form. sym (ap parameters_of form)) s here, same_heading (of_form result_of) (λ e a form. sym (ap result_of form)) s here)
 
   pub parameter_stays : (p : Parameter) → ParameterTold t p → ParameterTold u p
-  parameter_stays p h = record { closed = h.closed; lies = lies_stays p.sort h.lies }
+  parameter_stays p h = lies_stays p.sort h
 
   pub result_stays : (r : Option ℕ) → ResultTold t r → ResultTold u r
   result_stays None h = tt
@@ -218,7 +219,7 @@ module _ {to : ℕ} (t u : Table) (told : IsTold t) (kept : Kept to t u) where
     thing_stays : (x : Thing) → IsIn t x → ThingTold t texts x → ThingTold u more x
     thing_stays (thing.Constant k) here h = (kind_told_stays k h.0, h.1)
     thing_stays (thing.Named n c) here h = (h.0, (h.1.0, kept_texts n h.1.0 h.1.1, h.1.2))
-    thing_stays (thing.Variable v) here h = (h.0, lies_stays v.sort h.1)
+    thing_stays (thing.Variable v) here h = lies_stays v.sort h
     thing_stays (thing.Type s) here h = λ so. lies_stays s (h so)
     thing_stays (thing.Procedure x) here h = heading_stays x.sort here h
     thing_stays (thing.Resident x s) here h = let same = same_signature s here in (same.0 ∙ h.0, same.1 ∙ h.1)
@@ -364,12 +365,17 @@ shape_parameters t n ps r is = (ap parameters_in is, ap (of_form result_of) is)
 abbrev AreIn : Env → Type 0
 AreIn e = AllFine (AllFine (λ (x : List ℕ × Entry). IsIn e.types x.1.thing)) e.scopes.blocks
 
--- something lies in all variables, or where they lead to: of the module, which has no parameters, and of each procedure
-abbrev pub AllLie : (Mode → Type 0) → Table → List RVar → Type 0
-AllLie Q t vs = AllFine (λ (v : RVar). (lies_at t v.sort ≡ true) × Q v.mode) vs
+-- something lies in variables, where they lead to, or in each element of an open array
+abbrev pub AllLie : Table → List RVar → Type 0
+AllLie t vs = AllFine (λ (v : RVar). lies_at t v.sort ≡ true) vs
 
+-- those of the module, which has no parameters
+abbrev pub PlainLie : Table → List RVar → Type 0
+PlainLie t vs = AllFine (λ (v : RVar). (lies_at t v.sort ≡ true) × IsPlain v.mode) vs
+
+-- and those of each procedure
 abbrev pub Lie : Table → List RVar → List (List RVar) → Type 0
-Lie t vs ls = AllLie IsPlain t vs × AllFine (AllLie HasPassing t) ls
+Lie t vs ls = PlainLie t vs × AllFine (AllLie t) ls
 
 -- the type of a procedure is told
 abbrev pub HasHeading : Table → RProc → Type 0
@@ -395,7 +401,7 @@ module _ (e : Env) (h : Declared e) where
   declared_kept u kept told measured = record {
     told = record { types = told; words = measured; names = all_with _ _ _ (λ b. all_with _ _ _ (λ (x : List ℕ × Entry). same_things x.1.thing) b) e.scopes.blocks h.residents h.told.names; homed = h.told.homed; stands = h.told.stands };
     residents = all_then _ _ (λ b. all_then _ _ (λ (x : List ℕ × Entry). in_stays e.types u h.told.types kept x.1.thing) b) e.scopes.blocks h.residents;
-    variables = (they_lie IsPlain e.variables h.variables.0, all_then _ _ (they_lie HasPassing) e.locals h.variables.1);
+    variables = (plain_lie e.variables h.variables.0, all_then _ _ they_lie e.locals h.variables.1);
     headings = all_then (HasHeading e.types) (HasHeading u) (λ (q : RProc) j. (kept.below q.sort j.0, heading_stays e.types u h.told.types kept q.sort j.0 j.1)) e.procedures h.headings;
     headed = λ n q is. subst (λ (ps : List Parameter). AreHeaded ps (locals_in e.locals n)) (sym (same_signature e.types u h.told.types kept q.sort (fine_at (HasHeading e.types) e.procedures n q h.headings is).0).0) (h.headed n q is);
   }
@@ -403,8 +409,11 @@ module _ (e : Env) (h : Declared e) where
       same_things : (x : Thing) → IsIn e.types x → ThingTold e.types e.texts x → ThingTold u e.texts x
       same_things = thing_stays e.types u h.told.types kept e.texts e.texts (λ i cs is. is)
 
-      they_lie : (Q : Mode → Type 0) (vs : List RVar) → AllLie Q e.types vs → AllLie Q u vs
-      they_lie Q = all_then _ _ (λ (v : RVar) j. (lies_stays e.types u h.told.types kept v.sort j.0, j.1))
+      they_lie : (vs : List RVar) → AllLie e.types vs → AllLie u vs
+      they_lie = all_then _ _ (λ (v : RVar) j. lies_stays e.types u h.told.types kept v.sort j)
+
+      plain_lie : (vs : List RVar) → PlainLie e.types vs → PlainLie u vs
+      plain_lie = all_then _ _ (λ (v : RVar) j. (lies_stays e.types u h.told.types kept v.sort j.0, j.1))
 
   pub declared_added : (o : Origin) (form : TypeForm) → PartsTold e.types form → Few (added e.types o form) → Declared (record e { types = added e.types o form })
   declared_added o form parts few =

@@ -254,7 +254,7 @@ module _ (t : Table) (told : IsTold t) where
   first_base (k.Chars x) h n is = subst (HasBase t) (same_Some char n (if_some (x.length == 1) (Some char) n is).1) (b.Character, refl, refl)
   first_base (k.Of s) h n is = span_under s n is
   first_base k.Nil h n is = absurd (none-some n is)
-  first_base (k.Open s) h n is = absurd h
+  first_base (k.Open s) h n is = absurd (none-some n is)
   first_base (k.Routine s) h n is = absurd h
 
   abbrev asked : Found → Bound

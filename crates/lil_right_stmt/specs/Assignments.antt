@@ -10,14 +10,15 @@ use Rattle.lil_declared.specs.declared.declared.RVar.{RVar}
 use Rattle.lil_resolved.specs.Kinds as kinds
 use Rattle.lil_resolved.specs.{Kinds.Scope, Resolved.shape_of, Views.{assign_is, copy_is, text_is, place_of}, declared.resolved.{RBase.RBase, RExpr.RExpr, RKind.RKind, RNamed.RNamed, RStmt.RStmt}}
 use Rattle.lil_resolved.specs.declared.resolved.RBase.TheVariants as b
-use Rattle.lil_shapes.specs.{BaseLaws.{same_sort, kind_base}, Bases.{base_at, kind_at, composite_at, numbers_of, characters_in, characters_at}, Pointers.lies_at}
+use Rattle.lil_shapes.specs.{BaseLaws.{same_sort, kind_base}, Bases.{base_at, kind_at, array_at, composite_at, numbers_of, elements_in, elements_at}, Pointers.lies_at}
+use Rattle.lil_shapes.specs.declared.composites.ArrayParts as shaped
 use Rattle.lil_scope.specs.declared.thing.Kind.{Kind}
 use Rattle.lil_scope.specs.declared.thing.Kind.TheVariants as k
 use Rattle.lil_kinds.specs.{Forms.array_parts, Kinds.{suits, compatible, passes, assignable, misses, has_room, holds, holds_by}, declared.{forms.ArrayParts.ArrayParts, found.{Form.Form, Found.Found, Located.Located}}}
 use Rattle.lil_kinds.specs.declared.found.Form.TheVariants as form
 use Rattle.lil_forms.specs.Properties.{Reach}
-use Rattle.lil_forms.specs.{Places.{cell_as, cell}, Scopes.{Fits, both_left, both_right}, Soundness.{soundness, composite_there, characters_lie}, Statements.{stored, composed, assigned, located_in}, StatementSound.{StatementSound, made_sound}, Values.typed}
-use Rattle.lil_right_type.specs.{Found.{KindTold, LiesAt, GoesWith, IsLocated, IsFound}, Parts.{no_kind, array_is, has_nil_is, whole_is, or_of}, Right.{Right, IsThere, is_so}, Sound.{stored_sound, target_sound}, Typed.{Stores, either, assignable_stores}, Types.{IsTold, HasSpan, known_ordinal, span_is}}
+use Rattle.lil_forms.specs.{Places.{located_in, cell_as, cell}, Scopes.{Fits, both_left, both_right}, Soundness.{soundness, composite_there, characters_lie}, Statements.{stored, composed, assigned}, StatementSound.{StatementSound, made_sound}, Values.typed}
+use Rattle.lil_right_type.specs.{Found.{KindTold, LiesAt, GoesWith, IsPlaced, IsFound}, Parts.{no_kind, array_is, has_nil_is, whole_is, or_of}, Right.{Right, IsThere, is_so}, Sound.{stored_sound, target_sound}, Typed.{Stores, either, assignable_stores}, Types.{IsTold, HasSpan, known_ordinal, span_is}}
 use Rattle.lil_right_call.specs.Wholes.{IsWhole, IsSpelled, whole_or_spelled}
 use Rattle.lil_check_stmt.specs.Nodes.{takes, outside, assign_node}
 
@@ -34,21 +35,33 @@ at_most m n h = grind (arith, nat_tests)
 
 module _ (t : Table) (told : IsTold t) where
   -- ---- strings: an array that holds a text has as many characters
-  characters_are : (s n : ℕ) → holds t s n ≡ true → (m : ℕ) × (characters_at t s ≡ Some m) × (nat_le n m ≡ true)
+  record HasCharacters (s n : ℕ) : Type 0 where
+    parts : shaped.ArrayParts
+    array : array_at t s ≡ Some parts
+    element : parts.element ≡ char
+    count : ℕ
+    many : elements_at t s ≡ Some count
+    fits : nat_le n count ≡ true
+
+  characters_are : (s n : ℕ) → holds t s n ≡ true → HasCharacters s n
   unfolding holds
   characters_are s n h = by (array_parts t s) refl h
     where
-      by : (o : Option ArrayParts) → array_parts t s ≡ o → holds_by t o n ≡ true → (m : ℕ) × (characters_at t s ≡ Some m) × (nat_le n m ≡ true)
+      by : (o : Option ArrayParts) → array_parts t s ≡ o → holds_by t o n ≡ true → HasCharacters s n
       by None is h = cc
       by (Some p) is h =
           let a = array_is t told s p is in
           let o = known_ordinal t told p.index a.span.0 a.span.1 in
           let room : nat_le n (values a.span.0) ≡ true = sym (ap (λ o. has_room o n) (span_is t told p.index ∙ a.span.1)) ∙ both_right (p.element == char) _ h in
-          let many : numbers_of o.kind ≡ values a.span.0 = (λ i. kinds.nat_of ((o.greatest i -ℤ o.least i) +ℤ pos 1)) ∙ same_count ((a.span.0.high -ℤ a.span.0.low) +ℤ pos 1) in (
-            numbers_of o.kind,
-            ap (characters_in t) a.at ∙ ap (λ c. if c then option_map numbers_of (kind_at t p.index) else None) (both_left (p.element == char) _ h) ∙ ap (option_map numbers_of) o.at,
-            ap (nat_le n) many ∙ room,
-          )
+          let many : numbers_of o.kind ≡ values a.span.0 = (λ i. kinds.nat_of ((o.greatest i -ℤ o.least i) +ℤ pos 1)) ∙ same_count ((a.span.0.high -ℤ a.span.0.low) +ℤ pos 1) in
+          record {
+            parts = record { index = p.index; element = p.element };
+            array = a.at;
+            element = same_sort p.element char (both_left (p.element == char) _ h);
+            count = numbers_of o.kind;
+            many = ap (elements_in t) a.at ∙ ap (option_map numbers_of) o.at;
+            fits = ap (nat_le n) many ∙ room;
+          }
 
 module _ {t : Table} {vs : RNamed → Option RVar} {around : List ℕ} {R : Reach} {ts : Scope} (fits : Fits t vs around R ts) (told : IsTold t) (looping : Bool) where
   abbrev Made : Option RStmt → Type 0
@@ -71,9 +84,9 @@ module _ {t : Table} {vs : RNamed → Option RVar} {around : List ℕ} {R : Reac
       spelled_composed kind f v = subst (λ f. Made (composed p f)) (sym v.is)
           (let a = characters_are t told p.sort v.characters.length v.fits in
           made_sound ts looping _ _ (text_is p.place v.text) (record {
-            count = a.0;
-            shape = characters_lie fits p a.0 lies.good a.1;
-            fits = subst (λ n. n ≤ a.0) (sym v.holds_it.0) (at_most v.characters.length a.0 a.2);
+            count = a.count;
+            shape = characters_lie fits p a.parts a.count lies.good a.array a.element a.many;
+            fits = subst (λ n. n ≤ a.count) (sym v.holds_it.0) (at_most v.characters.length a.count a.fits);
             text = v.holds_it.1;
             place = lies.good.good;
             shallow = omega (arith, few, lies.deep);
@@ -99,11 +112,11 @@ module _ {t : Table} {vs : RNamed → Option RVar} {around : List ℕ} {R : Reac
           | inr e ↦ spelled_composed is v.kind v.form e
         ]
 
-  pub assign_right : (at : Place) (a v : Found) → IsFound (soundness fits) a → IsLocated a.form → IsFound (soundness fits) v → Right Made (assign_node t at (Some a) (Some v))
+  pub assign_right : (at : Place) (a v : Found) → IsFound (soundness fits) a → IsPlaced a.kind a.form → IsFound (soundness fits) v → Right Made (assign_node t at (Some a) (Some v))
   unfolding assign_node
   assign_right at a v h located j clear = by a.kind a.form h.kind h.form located clear.0 clear.1.0
     where
-      by : (kind : Kind) (f : Form) → KindTold t kind → GoesWith (soundness fits) a.depth kind f → IsLocated f → not (takes t kind v.kind) ≡ false → outside t kind v.kind ≡ false → Made (assigned t (located_in f) v)
+      by : (kind : Kind) (f : Form) → KindTold t kind → GoesWith (soundness fits) a.depth kind f → IsPlaced kind f → not (takes t kind v.kind) ≡ false → outside t kind v.kind ≡ false → Made (assigned t (located_in f) v)
       by (k.Of s) (form.Located p) fine goes located so out =
           placed_right p s a.depth h.few goes v j (ap (lies_at t) goes.sort ∙ fine) (ap (λ s. assignable t s v.kind) goes.sort ∙ is_so (assignable t s v.kind) so) (ap (λ s. misses t s v.kind) goes.sort ∙ out)
       by (k.Of s) _ fine goes located so out = absurd located

@@ -17,7 +17,7 @@ use Rattle.lil_kinds.specs.Kinds as Kinds
 use Rattle.lil_kinds.specs.declared.found.Form.TheVariants as form
 use Rattle.lil_forms.specs.Properties.{Reach}
 use Rattle.lil_forms.specs.{Scopes.Fits, Soundness.{Lies, soundness, composite_there}, StatementSound.{StatementSound, AllSound, body_sound, made_sound}, Values.{typed_by, typed, returned}}
-use Rattle.lil_right_type.specs.{Found.{GoesWith, IsLocated, IsFound, ResultTold}, Parts.{base_itself, record_is}, Right.{Right, IsThere, is_so}, Sound.{whole_sound, stored_sound}, Typed.{Yields, Stores, mapped, kind_yields, suits_yields, assignable_stores}, Types.{IsTold, ordinal_is}}
+use Rattle.lil_right_type.specs.{Found.{GoesWith, IsPlaced, IsFound, ResultTold}, Parts.{base_itself, record_is}, Right.{Right, IsThere, is_so}, Sound.{whole_sound, stored_sound}, Typed.{Yields, Stores, mapped, kind_yields, suits_yields, assignable_stores}, Types.{IsTold, ordinal_is}}
 use Rattle.lil_check_type.specs.Bounds.{whole_type, type_below}
 use Rattle.lil_check_stmt.specs.{Labels.as_label, Nodes.{is_truth, condition_node, selector_node, is_record_kind, opening, record_node, exit_node, end_node, answer, return_node}, Statements.{selected_by, selector_type, selector_value, within}}
 use Rattle.lil_right_sort.specs.Ranges.{Numbered, node_right}
@@ -163,11 +163,11 @@ module _ {t : Table} {vs : RNamed → Option RVar} {around : List ℕ} {R : Reac
   abbrev pub IsOpened : Taken within → Type 0
   IsOpened r = IsThere (Opens r.sort) r.place
 
-  pub record_right : (at : Place) (a : Found) → IsFound (soundness fits) a → IsLocated a.form → Right (IsThere IsOpened) (record_node t at (Some a))
+  pub record_right : (at : Place) (a : Found) → IsFound (soundness fits) a → IsPlaced a.kind a.form → Right (IsThere IsOpened) (record_node t at (Some a))
   unfolding record_node
   record_right at a h located = node_right IsOpened (record_node t at (Some a)).1 (opening a.kind a.form) (λ clear. by a.kind a.form h.form located clear.0)
     where
-      by : (kind : scope.Kind) (f : Form) → GoesWith (soundness fits) a.depth kind f → IsLocated f → not (is_record_kind t kind) ≡ false → IsThere IsOpened (opening kind f)
+      by : (kind : scope.Kind) (f : Form) → GoesWith (soundness fits) a.depth kind f → IsPlaced kind f → not (is_record_kind t kind) ≡ false → IsThere IsOpened (opening kind f)
       by (k.Of s) (form.Located p) goes located is = (
         goes.good,
         goes.sort,

@@ -12,7 +12,7 @@ use Rattle.lil_scope.specs.{declared.{env.Env.Env, thing.Kind.Kind}}
 use Rattle.lil_kinds.specs.declared.found.{Found.Found, Located.Located}
 use Rattle.lil_forms.specs.{Scopes.{Fits, fine_more, deeper}, Soundness.soundness, StatementSound.{StatementSound, AllSound, body_sound, made_sound}, Variables.seen}
 use Rattle.lil_check_value.specs.{Looks.look, Values.means}
-use Rattle.lil_right_type.specs.{Found.{reach, IsFound, IsLocated, EnvTold}, Right.{Right, IsThere, after_right, walk_right, IsAny}}
+use Rattle.lil_right_type.specs.{Found.{reach, IsFound, IsPlaced, EnvTold}, Right.{Right, IsThere, after_right, walk_right, IsAny}}
 use Rattle.lil_check_type.specs.Labels.{label_means}
 use Rattle.lil_check_stmt.specs.{Nodes.{condition_node, return_node}, Labels.{tag_of, as_label, label_step, labels_mean, with_label}, Counting.{step_node, step_means, count_means}}
 use Rattle.lil_check_stmt.specs.Statements.{conditional, Meaning, GuardMeaning, ArmMeaning, list_means, else_means, guards_mean, no_arms, arms_step, arms_mean, condition_means, selector_means, kind_of, within, result_by, result_at, return_means, selected, with_record, statement_layer, guard_layer, arm_layer, statement_means, guard_means, arm_means, statements_mean}
@@ -195,7 +195,7 @@ with_there e ts fits told settled none looping r xs h = by r.place h
 
 layer_right : (y : Stmt-F Tree ArmTree GuardTree) → IsRight StatementSound (statement_layer (meant (bare y)))
 layer_right (s.Assign d p x) e ts fits told settled none looping =
-    behind_right (λ a. IsFound (soundness fits) a × IsLocated a.form) (IsThere (StatementSound ts looping)) _ _ (variable_means_right e (soundness fits) told settled d) (λ a h.
+    behind_right (λ a. IsFound (soundness fits) a × IsPlaced a.kind a.form) (IsThere (StatementSound ts looping)) _ _ (variable_means_right e (soundness fits) told settled d) (λ a h.
     behind_found e ts fits told settled (IsThere (StatementSound ts looping)) x _ (λ v j. assign_right fits told.types looping p a v h.0 h.1 j))
 layer_right (s.Call d xs) e ts fits told settled none looping = call_means_right e fits told settled looping d xs
 layer_right (s.If p gs None) e ts fits told settled none looping = if_there e ts fits told settled none looping gs None (λ clear. tt)
@@ -210,7 +210,7 @@ layer_right (s.Loop p xs) e ts fits told settled none looping = behind_body e ts
 layer_right (s.For p h xs) e ts fits told settled none looping =
     behind_right (IsCount e fits told) (IsThere (StatementSound ts looping)) _ _ (count_there e ts fits told settled h) (λ c count. behind_body e ts fits told settled none looping (IsThere (StatementSound ts looping)) xs _ (λ ss all clear. counted_right e fits told looping c ss count all))
 layer_right (s.With p d xs) e ts fits told settled none looping =
-    behind_right (λ a. IsFound (soundness fits) a × IsLocated a.form) (IsThere (StatementSound ts looping)) _ _ (variable_means_right e (soundness fits) told settled d) (λ a h.
+    behind_right (λ a. IsFound (soundness fits) a × IsPlaced a.kind a.form) (IsThere (StatementSound ts looping)) _ _ (variable_means_right e (soundness fits) told settled d) (λ a h.
     behind_right (IsOpened fits told.types) (IsThere (StatementSound ts looping)) _ _ (record_right fits told.types p a h.0 h.1) (λ r opened. with_there e ts fits told settled none looping r xs opened))
 layer_right (s.Exit p) e ts fits told settled none looping = exit_right ts p looping
 layer_right (s.Return p None) e ts fits told settled none looping = return_there e ts fits told settled none looping p None

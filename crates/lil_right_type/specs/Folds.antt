@@ -198,7 +198,7 @@ module _ (t : Table) (told : IsTold t) where
       by false is = absurd (none-some c is)
   constant_told k.Nil h c is = absurd (none-some c is)
   constant_told (k.Of s) h c is = absurd (none-some c is)
-  constant_told (k.Open s) h c is = absurd h
+  constant_told (k.Open s) h c is = absurd (none-some c is)
   constant_told (k.Routine s) h c is = absurd h
 
   -- it is no text

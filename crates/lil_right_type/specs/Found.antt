@@ -7,14 +7,14 @@ use Rattle.lil_declared.specs.declared.standard.Resident.TheVariants as r
 use Rattle.lil_scope.specs.{Built.built, Names.chain, declared.{env.Env.Env, thing.{Chars.Chars, Entry.Entry, Kind.Kind, Thing.Thing}}}
 use Rattle.lil_scope.specs.declared.thing.Kind.TheVariants as k
 use Rattle.lil_scope.specs.declared.thing.Thing.TheVariants as t
-use Rattle.lil_kinds.specs.{Forms.{parameters, result}, declared.found.{Form.Form, Found.Found, Located.Located, Standing.Standing}}
+use Rattle.lil_kinds.specs.{Forms.{parameters, result}, declared.found.{Form.Form, Found.Found, Located.Located, OpenArray.OpenArray, Standing.Standing}}
 use Rattle.lil_kinds.specs.declared.found.Form.TheVariants as form
 use Rattle.lil_kinds.specs.declared.found.Standing.TheVariants as standing
 use Rattle.lil_resolved.specs.{Sizes.{place_depth, depth}, Sound.is_text, Views.{base_view, expression_of, place_of}, declared.resolved.{RBase.RBase, RExpr.RExpr, RKind.RKind, RNamed.RNamed}}
 use Rattle.lil_resolved.specs.declared.resolved.RBase.TheVariants as b
 use Rattle.lil_shapes.specs.{Bases.{base_at, kind_at}, ListLaws.AllFine, Operators.has_number, Pointers.lies_at}
 use Rattle.lil_forms.specs.{Properties.{Property, Reach, nothing, value_kind}, Variables.{passing_by, seen}}
-use Rattle.lil_right_type.specs.{Homes.{IsPlain, IsSeen, HasPassing, Homed, Stands}, Types.IsTold, Words.AreMeasured}
+use Rattle.lil_right_type.specs.{Homes.{IsPlain, IsSeen, Homed, Stands}, Types.IsTold, Words.AreMeasured}
 
 -- ---- kinds
 -- a base whose constants are told by their words
@@ -32,14 +32,14 @@ is_scalar b.Address = false
 abbrev pub HasWord : Table → ℕ → ℕ → Type 0
 HasWord t s w = (b : RBase) × (base_at t (base t s) ≡ Some b) × (is_scalar b ≡ true) × (has_number b (pos w) ≡ true)
 
--- constants are within their types, and something lies in a variable of a value's type. There are no open arrays and no procedures
+-- constants are within their types, and something lies in a variable of a value's type, or in each element of an open array. There are no procedures
 abbrev pub KindTold : Table → Kind → Type 0
 KindTold t (k.Whole z) = between (negsuc 32767) z (pos 65535) ≡ true
 KindTold t (k.Scalar s w) = HasWord t s w
 KindTold t (k.Chars c) = c.first ≤ 255
 KindTold t k.Nil = Unit {0}
 KindTold t (k.Of s) = lies_at t s ≡ true
-KindTold t (k.Open s) = ⊥
+KindTold t (k.Open s) = lies_at t s ≡ true
 KindTold t (k.Routine s) = ⊥
 
 -- ---- forms
@@ -68,6 +68,11 @@ module _ {t : Table} {vs : RNamed → Option RVar} {around : List ℕ} {R : Reac
     pub deep : place_depth (place_of p.place) ≤ d + 1
     pub good : P.place p
 
+  -- an open array of elements of a type, likewise
+  pub record OpensAt (s : ℕ) (a : OpenArray) : Type 0 where
+    pub sort : a.sort ≡ s
+    pub good : P.array a
+
   -- a form goes with a kind at a depth
   abbrev pub GoesWith : ℕ → Kind → Form → Type 0
   GoesWith d (k.Whole z) f = Unit {0}
@@ -75,13 +80,19 @@ module _ {t : Table} {vs : RNamed → Option RVar} {around : List ℕ} {R : Reac
   GoesWith d (k.Chars c) form.Nothing = ⊥
   GoesWith d (k.Chars c) (form.Text cs) = TextTold c cs
   GoesWith d (k.Chars c) (form.Located p) = ⊥
+  GoesWith d (k.Chars c) (form.Open a) = ⊥
   GoesWith d (k.Chars c) (form.Value x) = ⊥
   GoesWith d k.Nil f = Unit {0}
   GoesWith d (k.Of s) form.Nothing = ⊥
   GoesWith d (k.Of s) (form.Text cs) = ⊥
   GoesWith d (k.Of s) (form.Located p) = LiesAt s d p
+  GoesWith d (k.Of s) (form.Open a) = ⊥
   GoesWith d (k.Of s) (form.Value x) = IsValue s d x
-  GoesWith d (k.Open s) f = ⊥
+  GoesWith d (k.Open s) form.Nothing = ⊥
+  GoesWith d (k.Open s) (form.Text cs) = ⊥
+  GoesWith d (k.Open s) (form.Located p) = ⊥
+  GoesWith d (k.Open s) (form.Open a) = OpensAt s a
+  GoesWith d (k.Open s) (form.Value x) = ⊥
   GoesWith d (k.Routine s) f = ⊥
 
   pub bare : (d : ℕ) (kind : Kind) (f : Form) → IsBare kind → GoesWith d kind f
@@ -94,13 +105,16 @@ abbrev pub IsLocated : Form → Type 0
 IsLocated form.Nothing = ⊥
 IsLocated (form.Text cs) = ⊥
 IsLocated (form.Located p) = Unit {0}
+IsLocated (form.Open a) = ⊥
 IsLocated (form.Value x) = ⊥
 
+-- a place, or an open array
 abbrev pub IsPlaced : Kind → Form → Type 0
 IsPlaced (k.Of s) f = IsLocated f
+IsPlaced (k.Open s) f = Unit {0}
 IsPlaced _ f = ⊥
 
--- a variable is a place, and no constant
+-- a variable is one of these, and no constant
 abbrev pub HasPlace : Standing → Kind → Form → Type 0
 HasPlace standing.Value kind f = Unit {0}
 HasPlace standing.Variable kind f = IsPlaced kind f
@@ -122,10 +136,9 @@ abbrev pub IsKnown : Env → Found → Type 0
 IsKnown e a = IsFound (nothing e.types (seen e) e.withs (reach e)) a
 
 -- ---- parameters
--- one of which code is made: no open array
-pub record ParameterTold (t : Table) (p : Parameter) : Type 0 where
-  pub closed : p.open_array ≡ false
-  pub lies : lies_at t p.sort ≡ true
+-- something lies in what is handed over, or in each element of an open array
+abbrev pub ParameterTold : Table → Parameter → Type 0
+ParameterTold t p = lies_at t p.sort ≡ true
 
 -- values of the type of a result have a kind
 abbrev pub ResultTold : Table → Option ℕ → Type 0
@@ -140,7 +153,7 @@ HeadingTold t s = AllFine (ParameterTold t) (parameters t s) × ResultTold t (re
 abbrev pub AreHeaded : List Parameter → List RVar → Type 0
 AreHeaded [] vs = AllFine (λ (v : RVar). IsPlain v.mode) vs
 AreHeaded (p ∷ ps) [] = ⊥
-AreHeaded (p ∷ ps) (v ∷ vs) = (v.sort ≡ p.sort) × (v.mode ≡ passing_by p.by_place) × AreHeaded ps vs
+AreHeaded (p ∷ ps) (v ∷ vs) = (v.sort ≡ p.sort) × (v.mode ≡ passing_by p) × AreHeaded ps vs
 
 -- ---- names
 -- the parameters of each resident procedure
@@ -169,7 +182,7 @@ abbrev pub ThingTold : Table → List (List ℕ) → Thing → Type 0
 ThingTold types texts (t.Constant kind) = KindTold types kind × IsBare kind
 ThingTold types texts (t.Named n c) = (c.first ≤ 255) × ((cs : List ℕ) × (slice_get texts n ≡ Some cs) × TextTold c cs)
 ThingTold types texts t.Nil = Unit {0}
-ThingTold types texts (t.Variable v) = HasPassing v.mode × (lies_at types v.sort ≡ true)
+ThingTold types texts (t.Variable v) = lies_at types v.sort ≡ true
 ThingTold types texts (t.Type s) = built (t.Type s) ≡ true → lies_at types s ≡ true
 ThingTold types texts (t.Procedure x) = HeadingTold types x.sort
 ThingTold types texts (t.Resident x s) = (parameters types s ≡ signature x) × (result types s ≡ None)

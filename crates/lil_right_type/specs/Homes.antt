@@ -5,11 +5,14 @@ use Rattle.std.proofs.lemmas.{Option.{none-some, same_Some, slice_get_within}, B
 use Rattle.lil_declared.specs.declared.declared.{Mode.Mode, RProc.RProc, RVar.RVar}
 use Rattle.lil_declared.specs.declared.declared.Mode.TheVariants as mode
 use Rattle.lil_resolved.specs.Kinds as kinds
-use Rattle.lil_resolved.specs.declared.resolved.{RNamed.RNamed, RPassing.RPassing, RRoot.RRoot}
+use Rattle.lil_resolved.specs.{Sizes.place_depth, Views.{place_of, root_of, variable_is, handed_is}, declared.resolved.{RNamed.RNamed, RRoot.RRoot}}
+use Rattle.lil_resolved.specs.declared.resolved.RRoot.TheVariants as root
 use Rattle.lil_resolved.specs.declared.resolved.RNamed.TheVariants as named
 use Rattle.std.proofs.lemmas.List.{length_push}
-use Rattle.lil_shapes.specs.{ListLaws.AllFine, Shaping.passing_of, ShapeSound.{at_end, earlier}}
-use Rattle.lil_forms.specs.{Places.root_of, Scopes.fine_more, Variables.{level_named, named_at, locals_out, seen_in}}
+use Rattle.lil_shapes.specs.{ListLaws.AllFine, ShapeSound.{at_end, earlier}}
+use Rattle.lil_kinds.specs.declared.found.{Form.Form, Located.Located, OpenArray.OpenArray}
+use Rattle.lil_kinds.specs.declared.found.Form.TheVariants as form
+use Rattle.lil_forms.specs.{Parts.placed_is, Places.{at_root, variable_form}, Scopes.fine_more, Variables.{level_named, named_at, locals_out, seen_in}}
 use Rattle.lil_right_type.specs.Right.{all_then}
 use Rattle.lil_scope.specs.{declared.{env.Env.Env, scope.Scopes.Scopes, thing.{Entry.Entry, Routine.Routine, Thing.Thing, Variable.Variable}}, Names.{Names, same, entry_in, thing_of, look_in, inner_or, block_at, find_in, find, is_new, bound, bound_at, around_of, chain_by, chain, levels_out, locals_in}}
 use Rattle.lil_scope.specs.declared.thing.Thing.TheVariants as thing
@@ -122,10 +125,6 @@ abbrev pub own_of : List RVar → List (List RVar) → List ℕ → List RVar
 own_of vs ls [] = vs
 own_of vs ls (n ∷ ns) = locals_in ls n
 
--- what a variable of this mode means lies in it or where it leads to: it is no open array
-abbrev pub HasPassing : Mode → Type 0
-HasPassing m = (p : RPassing) × (passing_of m ≡ Some p)
-
 -- no parameter
 abbrev pub IsPlain : Mode → Type 0
 IsPlain m = m ≡ mode.Plain
@@ -133,7 +132,7 @@ IsPlain m = m ≡ mode.Plain
 -- those of the module are no parameters
 abbrev pub IsRooted : List ℕ → Mode → Type 0
 IsRooted [] m = IsPlain m
-IsRooted (n ∷ ns) m = HasPassing m
+IsRooted (n ∷ ns) m = Unit {0}
 
 -- a variable that is declared in a block
 pub record IsOwn (ps : List RProc) (vs : List RVar) (ls : List (List RVar)) (b : ℕ) (v : Variable) : Type 0 where
@@ -195,7 +194,29 @@ pub record IsSeen (ps : List RProc) (chain : List ℕ) (sort number levels : ℕ
   pub low : number < 250
   pub few : levels < 256
 
--- ---- variables: one that is seen from within a chain of procedures, and leads somewhere
+-- ---- variables
+-- a place of a type whose address takes a word
+pub record IsPlaceForm (s : ℕ) (f : Form) : Type 0 where
+  pub at : Located
+  pub is : f ≡ form.Located at
+  pub sort : at.sort ≡ s
+  pub deep : place_depth (place_of at.place) ≡ 1
+
+-- an open array of elements of a type
+pub record IsOpenForm (s : ℕ) (f : Form) : Type 0 where
+  pub array : OpenArray
+  pub is : f ≡ form.Open array
+  pub sort : array.sort ≡ s
+
+-- what a variable leads to
+abbrev pub IsVariableForm : Mode → ℕ → Form → Type 0
+IsVariableForm mode.Plain s f = IsPlaceForm s f
+IsVariableForm mode.Value s f = IsPlaceForm s f
+IsVariableForm mode.Place s f = IsPlaceForm s f
+IsVariableForm mode.OpenValue s f = IsOpenForm s f
+IsVariableForm mode.OpenPlace s f = IsOpenForm s f
+
+-- one that is seen from within a chain of procedures, and leads somewhere
 pub record IsShown (vs : List RVar) (ls : List (List RVar)) (chain : List ℕ) (o : Option RNamed) (v : Variable) : Type 0 where
   pub named : RNamed
   pub is : o ≡ Some named
@@ -203,8 +224,7 @@ pub record IsShown (vs : List RVar) (ls : List (List RVar)) (chain : List ℕ) (
   pub there : seen_in vs ls chain named ≡ Some its
   pub sort_is : its.sort ≡ v.sort
   pub mode_is : its.mode ≡ v.mode
-  pub root : RRoot
-  pub leads : root_of its.mode named ≡ Some root
+  pub leads : IsVariableForm v.mode v.sort (variable_form named its.mode its.sort)
 
 -- what a thing is to the procedure at hand
 abbrev pub Seen : List RProc → List ℕ → Env → Thing → Type 0
@@ -302,12 +322,25 @@ first_left (suc n) (x ∷ xs) y ys is = first_left n xs y ys is
 abbrev named_from : ℕ → Variable → Option RNamed
 named_from count v = if v.level == 1 then Some (named.Module v.number) else level_named (count - v.level) v.number
 
-level_root : (m : Mode) (l x : ℕ) → HasPassing m → (r : RRoot) × (root_of m (named.Level l x) ≡ Some r)
-level_root mode.Plain l x h = (_, refl)
-level_root mode.Value l x h = (_, refl)
-level_root mode.Place l x h = (_, refl)
-level_root mode.OpenValue l x h = absurd (none-some h.0 h.1)
-level_root mode.OpenPlace l x h = absurd (none-some h.0 h.1)
+-- with what the place of a variable begins, and that of what was handed in
+place_form : (r : RRoot) (s : ℕ) → place_depth (root_of r) ≡ 1 → IsPlaceForm s (form.Located (at_root r s))
+place_form r s deep = record { at = at_root r s; is = refl; sort = refl; deep = ap place_depth (placed_is r []) ∙ deep }
+
+variable_leads : (n : RNamed) (s : ℕ) → IsPlaceForm s (form.Located (at_root (root.Variable n) s))
+variable_leads n s = place_form (root.Variable n) s (ap place_depth (variable_is n))
+
+plain_leads : (n : RNamed) (m : Mode) (s : ℕ) → IsPlain m → IsVariableForm m s (variable_form n m s)
+plain_leads n m s is = subst (λ (m : Mode). IsVariableForm m s (variable_form n m s)) (sym is) (variable_leads n s)
+
+level_leads : (m : Mode) (l x s : ℕ) → IsVariableForm m s (variable_form (named.Level l x) m s)
+level_leads mode.Plain l x s = variable_leads (named.Level l x) s
+level_leads mode.Value l x s = variable_leads (named.Level l x) s
+level_leads mode.Place l x s = place_form (root.Handed l x) s (ap place_depth (handed_is l x))
+level_leads mode.OpenValue l x s = record { array = _; is = refl; sort = refl }
+level_leads mode.OpenPlace l x s = record { array = _; is = refl; sort = refl }
+
+shown_form : (n : RNamed) (v : Variable) (x : RVar) → x.sort ≡ v.sort → x.mode ≡ v.mode → IsVariableForm v.mode v.sort (variable_form n v.mode v.sort) → IsVariableForm v.mode v.sort (variable_form n x.mode x.sort)
+shown_form n v x sort mode h = subst (IsVariableForm v.mode v.sort) (λ i. variable_form n (sym mode i) (sym sort i)) h
 
 shown_out : (vs : List RVar) (ls : List (List RVar)) (chain own : List ℕ) (v : Variable) (x : RVar) → IsRest chain own → length chain ≤ 250 → v.level ≡ suc (length own) → slice_get (own_of vs ls own) v.number ≡ Some x → x.sort ≡ v.sort → x.mode ≡ v.mode → IsRooted own v.mode
     → IsShown vs ls chain (named_from (suc (length chain)) v) v
@@ -318,8 +351,7 @@ shown_out vs ls chain [] v x rest few at there sort mode rooted = record {
   there = there;
   sort_is = sort;
   mode_is = mode;
-  root = _;
-  leads = ap (λ (m : Mode). root_of m (named.Module v.number)) (mode ∙ rooted);
+  leads = shown_form (named.Module v.number) v x sort mode (plain_leads (named.Module v.number) v.mode v.sort rooted);
 }
 shown_out vs ls chain (p ∷ own) v x rest few at there sort mode rooted =
     let long : suc (length own) ≡ length chain - rest.0 = ap length rest.2 ∙ length-drop rest.0 chain in
@@ -333,8 +365,7 @@ shown_out vs ls chain (p ∷ own) v x rest few at there sort mode rooted =
       there = ap (λ (o : Option ℕ). slice_get (locals_out ls o) v.number) (first_left rest.0 chain p own rest.2) ∙ there;
       sort_is = sort;
       mode_is = mode;
-      root = (level_root v.mode rest.0 v.number rooted).0;
-      leads = ap (λ (m : Mode). root_of m (named.Level rest.0 v.number)) mode ∙ (level_root v.mode rest.0 v.number rooted).1;
+      leads = shown_form (named.Level rest.0 v.number) v x sort mode (level_leads v.mode rest.0 v.number v.sort);
     }
 
 module _ (bs : List Names) (ps : List RProc) (vs : List RVar) (ls : List (List RVar)) (h : Homed bs ps vs ls) where
@@ -470,7 +501,7 @@ module _ (ws : List RVar) where
 
 -- what names of the block of a procedure mean that is declared at a level, as long as it has but parameters: these, by their numbers
 abbrev pub IsParameter : List RVar → ℕ → Thing → Type 0
-IsParameter ws at (thing.Variable v) = (v.level ≡ at) × HasPassing v.mode × ((its : RVar) × (slice_get ws v.number ≡ Some its) × (its.sort ≡ v.sort) × (its.mode ≡ v.mode))
+IsParameter ws at (thing.Variable v) = (v.level ≡ at) × ((its : RVar) × (slice_get ws v.number ≡ Some its) × (its.sort ≡ v.sort) × (its.mode ≡ v.mode))
 IsParameter ws at _ = ⊥
 
 module _ (bs : List Names) (ps : List RProc) (vs : List RVar) (ls : List (List RVar)) (outer : List ℕ) (inner : ℕ) (at : Option ℕ) (h : Homed bs ps vs ls) (stands : Stands outer inner ps at) (room : length ps < 250) (name : List ℕ) (sort : ℕ)
@@ -512,11 +543,11 @@ module _ (bs : List Names) (ps : List RProc) (vs : List RVar) (ls : List (List R
     chain = length ps ∷ chain_by ps at;
     home = inr (record { number = length ps; its = own; there = last_there ps own; block = sym here; chain_is = refl });
     level_is = omega (arith, p.0, stands.path.level_is);
-    its = p.2.0;
-    there = ap (λ (n : ℕ). slice_get (locals_in (ls ++ ws ∷ []) n) v.number) (sym h.each) ∙ ap (λ (xs : List RVar). slice_get xs v.number) (last_locals ws ls) ∙ p.2.1;
-    sort_is = p.2.2;
-    mode_is = p.2.3;
-    rooted = p.1;
+    its = p.1.0;
+    there = ap (λ (n : ℕ). slice_get (locals_in (ls ++ ws ∷ []) n) v.number) (sym h.each) ∙ ap (λ (xs : List RVar). slice_get xs v.number) (last_locals ws ls) ∙ p.1.1;
+    sort_is = p.1.2;
+    mode_is = p.1.3;
+    rooted = tt;
   }
 
   pub homed_procedure : (n : List ℕ) (e : Entry) → e.thing ≡ thing.Procedure routine → Homed (bound_at (bs ++ block ∷ []) inner n e) more vs (ls ++ ws ∷ [])

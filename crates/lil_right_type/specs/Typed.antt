@@ -219,6 +219,7 @@ module _ {t : Table} {vs : RNamed → Option RVar} {around : List ℕ} {R : Reac
       let at : kind_at t p.sort ≡ Some j.0 = ap (kind_at t) h.sort ∙ j.1 in
       subst (λ o. IsThere (Yields P g d) (taken_as p o)) (sym at)
       (ap kind_of (taken_is p.place j.0) ∙ Bases.own_base j.0 ∙ ap base_view j.2, subst (λ a. depth a ≤ d + 1) (sym (taken_is p.place j.0)) h.deep, P.taken p j.0 at h.good)
+  own_yields r g d (form.Open a) is h = absurd h
   own_yields r g d (form.Value x) is h =
       let j = has_kind t told r g is in
       (h.kind ∙ ap (λ (j : RKind). base_view j.base) (same_Some h.as_kind j.0 (sym h.at ∙ j.1)) ∙ ap base_view j.2, h.deep, h.good)
@@ -236,7 +237,7 @@ module _ {t : Table} {vs : RNamed → Option RVar} {around : List ℕ} {R : Reac
       subst (λ g. Yields P g d (e.Constant b.Character (pos c.first))) (same_Some b.Character g (sym (ap (base_at t) same) ∙ is)) (constant_yields P b.Character (pos c.first) d (is_character_number c.first fine))
   kind_yields s g d k.Nil f is fine goes h = base_yields P (base_at t (base t s)) g (pos 0) d is (zero_number g)
   kind_yields s g d (k.Of r) f is fine goes h = own_yields r g d f (sym (ap (base_at t) (same_sort (base t s) (base t r) h)) ∙ is) goes
-  kind_yields s g d (k.Open r) f is fine goes h = absurd fine
+  kind_yields s g d (k.Open r) f is fine goes h = cc
   kind_yields s g d (k.Routine r) f is fine goes h = absurd fine
 
   pub suits_yields : (s : ℕ) (g : RBase) (a : Found) → base_at t (base t s) ≡ Some g → IsFound P a → suits t s a.kind ≡ true → IsThere (Yields P g a.depth) (typed t s a)
@@ -266,7 +267,7 @@ module _ {t : Table} {vs : RNamed → Option RVar} {around : List ℕ} {R : Reac
       let mine = whole_base t told (base t s) j.base (both_left (is_whole t s) (is_whole t r) h) (kind_base t s j at) in
       let other = whole_base t told (base t r) o.kind.base low o.base in
       mapped (Yields P o.kind.base d) (Stores P j d) (own t f) (λ x y. (both_whole t told j mine.0 other.0 (value_kind x) mine.1 (y.0 ∙ other.1), y.1, y.2)) (own_yields r o.kind.base d f o.base goes)
-  passed_stores s j d (k.Open r) f at fine goes h out = absurd fine
+  passed_stores s j d (k.Open r) f at fine goes h out = cc
   passed_stores s j d (k.Routine r) f at fine goes h out = absurd fine
 
   pub assignable_stores : (s : ℕ) (j : RKind) (a : Found) → kind_at t s ≡ Some j → IsFound P a → assignable t s a.kind ≡ true → misses t s a.kind ≡ false → IsThere (Stores P j a.depth) (typed t s a)

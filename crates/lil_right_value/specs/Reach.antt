@@ -1,41 +1,40 @@
 -- What designators reach is told, and so is what is used of it.
-use Rattle.std.proofs.Common.{◌≡◌, ℕ, ◌+◌, ◌≤◌, Bool, true, false, not, ◌&&◌, List, [], length, slice_get, Option, Some, None, IfSome, if◌then◌else◌, refl, sym, ap, subst, ◌∙◌, arith, true≢false}
+use Rattle.std.proofs.Common.{◌≡◌, ◌⊎◌, inl, inr, ℕ, ◌+◌, ◌≤◌, Bool, true, false, not, ◌&&◌, List, [], length, slice_get, Option, Some, None, IfSome, if◌then◌else◌, refl, sym, ap, subst, ◌∙◌, arith, true≢false}
 use Rattle.std.specs.Prelude.{max, is_none}
-use Rattle.std.proofs.lemmas.Option.{none-some}
 use Rattle.lil_base.specs.declared.fault.{Place.Place, FaultKind.{FaultKind, TheVariants.{NotRecord, NotPointer}}}
 use Rattle.lil_text.specs.declared.tree.Ident.{Ident}
-use Rattle.lil_types.specs.Types.{Table}
+use Rattle.lil_types.specs.Types.{Table, cardinal}
 use Rattle.lil_declared.specs.declared.declared.{Mode.Mode, RVar.RVar}
 use Rattle.lil_declared.specs.declared.declared.Mode.TheVariants as mode
-use Rattle.lil_scope.specs.{Built.built, Names.{member, waits_for, chain}, declared.{env.Env.Env, thing.{Thing.Thing, Variable.Variable}}}
+use Rattle.lil_scope.specs.{Built.built, Names.{member, waits_for, chain}, declared.{env.Env.Env, thing.{Kind.Kind, Thing.Thing, Variable.Variable}}}
 use Rattle.lil_scope.specs.declared.thing.Kind.TheVariants as k
 use Rattle.lil_scope.specs.declared.thing.Thing.TheVariants as t
-use Rattle.lil_kinds.specs.{Forms.{array_parts, field, is_record, target}, Kinds.{assignable, misses}, declared.{forms.FieldAt.FieldAt, found.{Found.Found, Located.Located, Standing.Standing}}}
+use Rattle.lil_kinds.specs.{Forms.{array_parts, field, is_record, target}, Kinds.{assignable, misses}, declared.{forms.FieldAt.FieldAt, found.{Form.Form, Found.Found, Located.Located, OpenArray.OpenArray, Standing.Standing}}}
 use Rattle.lil_kinds.specs.declared.forms.ArrayParts as checked
+use Rattle.lil_kinds.specs.declared.found.Form.TheVariants as form
 use Rattle.lil_kinds.specs.declared.found.Standing.TheVariants as standing
-use Rattle.lil_resolved.specs.{Sizes.{place_depth, depth}, Views.{expression_of, place_of, root_view, field_is as field_view, index_is, follow_is}, declared.resolved.{RExpr.RExpr, RKind.RKind, RNamed.RNamed, RPlace.RPlace, RRoot.RRoot}}
+use Rattle.lil_resolved.specs.{Sizes.{place_depth, depth}, Views.{expression_of, place_of, along_is, held_is, field_is as field_view, index_is, follow_is}, declared.resolved.{RExpr.RExpr, RKind.RKind, RNamed.RNamed, RPlace.RPlace}}
+use Rattle.lil_resolved.specs.declared.resolved.RBase.TheVariants as b
 use Rattle.lil_resolved.specs.declared.resolved.RRoot.TheVariants as root
 use Rattle.lil_resolved.specs.declared.resolved.RSelector.TheVariants as part
-use Rattle.lil_shapes.specs.{Bases.{kind_at, array_at, field_at}, Pointers.{lies_at, target_at, target_with, target_by}}
-use Rattle.lil_forms.specs.{Parts.{placed_is, further_is}, Places.{at_root, further, held_at, element_as, element_by}, Properties.{Property, Reach}, Values.typed, Variables.seen}
+use Rattle.lil_shapes.specs.{Bases.{plain, kind_at, array_at, field_at}, Pointers.{lies_at, target_at, target_with, target_by}}
+use Rattle.lil_forms.specs.{Parts.{placed_is, further_is}, Places.{at_root, further, located_form, located_in, variable_form, held_at, element_as, element_by, element_along}, Properties.{Property, Reach}, Values.typed, Variables.seen}
 use Rattle.lil_forms.specs.Places as places
 use Rattle.lil_call.specs.declared.call.Argument.TheVariants as argument
 use Rattle.lil_operators.specs.Operations.{raised}
 use Rattle.lil_check_value.specs.{declared.{designators.{Named.Named, Part.Part, Reached.Reached}, names.Looked.{Looked, TheVariants.{Nothing, Field, Thing as Declared}}}, Looks.{look, looked_as, is_hidden_thing}}
-use Rattle.lil_check_value.specs.Designators.{place_named, variable_place, kind_by, whole_part, thing_reached, held_field, name_node, root_means, is_misplaced, refused_rows, record_kind, field_of, field_found, field_value, part_field, module_block, other_field_by, other_field, field_node, parts_of, with_index, index_fits, element_found, element_value, index_rows, part_index, other_index, index_node, opaque_kind, target_of, target_found, target_value, part_follow, is_waiting, reached_follow, other_follow, follow_node, located_form, part_found, no_value, is_procedure, text_form, thing_found, named_value, value_node, variable_node, part_callee, thing_callee, callee_node, type_in, no_type_in, part_typed, typed_node}
+use Rattle.lil_check_value.specs.Designators.{form_named, kind_by, variable_kind, whole_part, thing_reached, held_field, name_node, root_means, is_misplaced, refused_rows, record_kind, field_of, field_found, field_value, part_field, module_block, other_field_by, other_field, field_node, parts_of, with_field, with_index, index_fits, element_found, element_value, index_rows, part_index, other_index, index_node, opaque_kind, target_of, with_follow, target_found, target_value, part_follow, is_waiting, reached_follow, other_follow, follow_node, part_found, no_value, is_procedure, text_form, thing_found, named_value, value_node, variable_node, part_callee, thing_callee, callee_node, type_in, no_type_in, part_typed, typed_node}
 use Rattle.lil_check_value.specs.declared.designators.Reached.TheVariants as reached
 use Rattle.lil_right_call.specs.Told.{ArgumentTold, CalleeTold}
-use Rattle.lil_right_type.specs.{Found.{reach, KindTold, LiesAt, GoesWith, bare, IsLocated, HasPlace, IsFound, ThingTold, EnvTold}, Homes.{HasPassing, IsModule, Seen}, Parts.{IsArray, IsPointer, array_is, field_is, target_is, never_opaque}, Right.{Clear, Right, IsThere, IsThereOr, there_or, is_so}, Typed.{Suits, kept_if, assignable_stores, stores_suits}, Types.{IsOrdinal, known_ordinal}}
+use Rattle.lil_right_type.specs.{Found.{reach, KindTold, LiesAt, OpensAt, GoesWith, bare, IsPlaced, HasPlace, IsFound, ThingTold, EnvTold}, Homes.{IsPlaceForm, IsOpenForm, IsVariableForm, IsModule, Seen}, Parts.{IsArray, IsPointer, array_is, field_is, target_is, never_opaque}, Right.{Clear, Right, IsThere, IsThereOr, there_or, is_so}, Typed.{Suits, kept_if, assignable_stores, stores_suits}, Types.{IsOrdinal, known_ordinal}}
 use Rattle.lil_right_value.specs.{Names.{SeenTold, LookTold, look_told, looked_told, member_seen}, Operators.{IsRaised, raised_is}}
 
 -- ---- depths of places
-root_depth : (r : RRoot) (s : ℕ) → place_depth (place_of (at_root r s).place) ≡ 1
-root_depth r s = ap place_depth (placed_is r []) ∙ by r
-  where
-    by : (r : RRoot) → place_depth (root_view r) ≡ 1
-    by (root.Variable n) = refl
-    by (root.Handed l x) = refl
-    by (root.Held w) = refl
+held_depth : (w s : ℕ) → place_depth (place_of (at_root (root.Held w) s).place) ≡ 1
+held_depth w s = ap place_depth (placed_is (root.Held w) [] ∙ held_is w)
+
+along_depth : (n i : ℕ) (x : RExpr) (s : ℕ) → place_depth (place_of (at_root (root.Along n i x) s).place) ≡ 2 + depth (expression_of x)
+along_depth n i x s = ap place_depth (placed_is (root.Along n i x) [] ∙ along_is n i x)
 
 field_depth : (p : RPlace) (i : ℕ) → place_depth (place_of (further p (part.Field i))) ≡ place_depth (place_of p)
 field_depth p i = ap place_depth (further_is p (part.Field i) ∙ field_view i (place_of p))
@@ -46,40 +45,59 @@ follow_depth p n = ap place_depth (further_is p (part.Follow n) ∙ follow_is n 
 index_depth : (p : RPlace) (j : RKind) (x : RExpr) → place_depth (place_of (further p (part.Index j x))) ≡ max (place_depth (place_of p)) (2 + depth (expression_of x))
 index_depth p j x = ap place_depth (further_is p (part.Index j x) ∙ index_is j x (place_of p))
 
--- the place of a variable, or of a part of one, of a type
-pub record PartTold {t : Table} {vs : RNamed → Option RVar} {around : List ℕ} {R : Reach} (P : Property t vs around R) (a : Part) : Type 0 where
-  pub sort : ℕ
-  pub is : a.kind ≡ k.Of sort
-  pub lies : lies_at t sort ≡ true
-  pub place : IsThere (LiesAt P sort a.depth) a.place
-  pub some : 1 ≤ a.depth
-  pub few : a.depth ≤ 12
+-- ---- variables and their parts
+module _ {t : Table} {vs : RNamed → Option RVar} {around : List ℕ} {R : Reach} (P : Property t vs around R) where
+  -- a place of a type, or an open array
+  pub record PartTold (a : Part) : Type 0 where
+    pub kind : KindTold t a.kind
+    pub form : GoesWith P a.depth a.kind a.form
+    pub placed : IsPlaced a.kind a.form
+    pub some : 1 ≤ a.depth
+    pub few : a.depth ≤ 12
 
--- what is used of it
-part_told : {t : Table} {vs : RNamed → Option RVar} {around : List ℕ} {R : Reach} (P : Property t vs around R) (a : Part) → PartTold P a → IsFound P (part_found a) × IsLocated (located_form a.place)
-part_told {t} P a h = (
-  record {
-    kind = subst (KindTold t) (sym h.is) h.lies;
-    form = subst (λ kind. GoesWith P a.depth kind (located_form a.place)) (sym h.is) (goes a.place h.place);
-    place = subst (λ kind. HasPlace a.standing kind (located_form a.place)) (sym h.is) (stands a.standing (located a.place h.place));
-    some = h.some;
-    few = h.few;
-  },
-  located a.place h.place,
-)
-  where
-    goes : (o : Option Located) → IsThere (LiesAt P h.sort a.depth) o → GoesWith P a.depth (k.Of h.sort) (located_form o)
-    goes None j = j
-    goes (Some p) j = j
+  -- what is used of it
+  part_told : (a : Part) → PartTold a → IsFound P (part_found a) × IsPlaced a.kind a.form
+  part_told a h = (record { kind = h.kind; form = h.form; place = stands a.standing; some = h.some; few = h.few }, h.placed)
+    where
+      stands : (x : Standing) → HasPlace x a.kind a.form
+      stands standing.Value = tt
+      stands standing.Variable = h.placed
+      stands standing.Character = h.placed
 
-    located : (o : Option Located) → IsThere (LiesAt P h.sort a.depth) o → IsLocated (located_form o)
-    located None j = j
-    located (Some p) j = tt
+  -- one that is a place
+  record IsPlace (a : Part) : Type 0 where
+    sort : ℕ
+    is : a.kind ≡ k.Of sort
+    lies : lies_at t sort ≡ true
+    place : IsThere (LiesAt P sort a.depth) (located_in a.form)
 
-    stands : (x : Standing) → IsLocated (located_form a.place) → HasPlace x (k.Of h.sort) (located_form a.place)
-    stands standing.Value j = tt
-    stands standing.Variable j = j
-    stands standing.Character j = j
+  -- one that is an open array
+  record IsOpen (a : Part) : Type 0 where
+    sort : ℕ
+    is : a.kind ≡ k.Open sort
+    lies : lies_at t sort ≡ true
+    array : OpenArray
+    form : a.form ≡ form.Open array
+    opens : OpensAt P sort array
+
+  which : (a : Part) → PartTold a → IsPlace a ⊎ IsOpen a
+  which a h = by a.kind a.form refl refl h.kind h.form h.placed
+    where
+      by : (kind : Kind) (f : Form) → a.kind ≡ kind → a.form ≡ f → KindTold t kind → GoesWith P a.depth kind f → IsPlaced kind f → IsPlace a ⊎ IsOpen a
+      by (k.Of s) (form.Located p) is same lies goes placed = inl (record { sort = s; is = is; lies = lies; place = subst (λ f. IsThere (LiesAt P s a.depth) (located_in f)) (sym same) goes })
+      by (k.Open s) (form.Open o) is same lies goes placed = inr (record { sort = s; is = is; lies = lies; array = o; form = same; opens = goes })
+      by (k.Open s) _ is same lies goes placed = absurd goes
+      by _ _ is same lies goes placed = absurd placed
+
+  place_told : (a : Part) (s : ℕ) (o : Option Located) → a.kind ≡ k.Of s → a.form ≡ located_form o → lies_at t s ≡ true → IsThere (LiesAt P s a.depth) o → 1 ≤ a.depth → a.depth ≤ 12 → PartTold a
+  place_told a s None is same lies h some few = absurd h
+  place_told a s (Some p) is same lies h some few = record {
+    kind = subst (KindTold t) (sym is) lies;
+    form = subst (λ f. GoesWith P a.depth a.kind f) (sym same) (subst (λ kind. GoesWith P a.depth kind (form.Located p)) (sym is) h);
+    placed = subst (IsPlaced a.kind) (sym same) (subst (λ kind. IsPlaced kind (form.Located p)) (sym is) tt);
+    some = some;
+    few = few;
+  }
 
 -- what else a name means: it is built, and no variable
 abbrev pub is_other : Thing → Bool
@@ -97,27 +115,32 @@ module _ (e : Env) (P : Property e.types (seen e) e.withs (reach e)) (told : Env
   ReachedTold (reached.Other o) = NamedTold o.thing
 
   -- ---- names
-  whole_told : (p q : Place) (o : Option Located) (s : ℕ) → lies_at e.types s ≡ true → IsThere (LiesAt P s 1) o → PartTold P (whole_part p q o (k.Of s))
-  whole_told p q o s lies h = record { sort = s; is = refl; lies = lies; place = h; some = omega arith; few = omega arith }
+  whole_told : (p q : Place) (o : Option Located) (s : ℕ) → lies_at e.types s ≡ true → IsThere (LiesAt P s 1) o → PartTold P (whole_part p q (located_form o) (k.Of s))
+  whole_told p q o s lies h = place_told P (whole_part p q (located_form o) (k.Of s)) s o refl refl lies h (omega arith) (omega arith)
 
+  -- a variable as a whole: a place, or an open array
   variable_told : (p q : Place) (v : Variable) → SeenTold e (t.Variable v) → IsThere ReachedTold (thing_reached e p q (t.Variable v))
   variable_told p q v h =
       let x = h.1 in
-      subst (λ kind. PartTold P (whole_part p q (variable_place e v) kind)) (sym (closed v.mode h.0.0))
-      (whole_told p q (variable_place e v) v.sort h.0.1
-      (subst (λ o. IsThere (LiesAt P v.sort 1) (place_named e o)) (sym x.is)
-      (subst (λ o. IsThere (LiesAt P v.sort 1) (places.variable_at x.named o)) (sym x.there)
-      (subst (λ o. IsThere (LiesAt P v.sort 1) (places.located_at x.its.sort o)) (sym x.leads) record { sort = x.sort_is; deep = at_most (root_depth x.root x.its.sort); good = P.variable x.named x.its x.root x.there x.leads }))))
+      subst (λ o. PartTold P (whole_part p q (form_named e o) (variable_kind v))) (sym x.is)
+      (subst (λ o. PartTold P (whole_part p q (places.variable_at x.named o) (variable_kind v))) (sym x.there)
+      (by v.mode (variable_form x.named x.its.mode x.its.sort) (λ at is. P.variable x.named x.its at x.there is) (λ a is. P.opened x.named x.its a x.there is) x.leads))
     where
-      closed : (m : Mode) → HasPassing m → kind_by m v.sort ≡ k.Of v.sort
-      closed mode.Plain h = refl
-      closed mode.Value h = refl
-      closed mode.Place h = refl
-      closed mode.OpenValue h = absurd (none-some h.0 h.1)
-      closed mode.OpenPlace h = absurd (none-some h.0 h.1)
+      lies : lies_at e.types v.sort ≡ true
+      lies = h.0
 
-      at_most : {n : ℕ} → n ≡ 1 → n ≤ 1 + 1
-      at_most is = omega (arith, is)
+      placed : (f : Form) → ((at : Located) → f ≡ form.Located at → P.place at) → IsPlaceForm v.sort f → PartTold P (whole_part p q f (k.Of v.sort))
+      placed f place h = subst (λ f. PartTold P (whole_part p q f (k.Of v.sort))) (sym h.is) (whole_told p q (Some h.at) v.sort lies (record { sort = h.sort; deep = omega (arith, h.deep); good = place h.at h.is }))
+
+      opened : (f : Form) → ((a : OpenArray) → f ≡ form.Open a → P.array a) → IsOpenForm v.sort f → PartTold P (whole_part p q f (k.Open v.sort))
+      opened f array h = subst (λ f. PartTold P (whole_part p q f (k.Open v.sort))) (sym h.is) (record { kind = lies; form = record { sort = h.sort; good = array h.array h.is }; placed = tt; some = omega arith; few = omega arith })
+
+      by : (m : Mode) (f : Form) → ((at : Located) → f ≡ form.Located at → P.place at) → ((a : OpenArray) → f ≡ form.Open a → P.array a) → IsVariableForm m v.sort f → PartTold P (whole_part p q f (kind_by m v.sort))
+      by mode.Plain f place array leads = placed f place leads
+      by mode.Value f place array leads = placed f place leads
+      by mode.Place f place array leads = placed f place leads
+      by mode.OpenValue f place array leads = opened f array leads
+      by mode.OpenPlace f place array leads = opened f array leads
 
   named_told : (p q : Place) (x : Thing) → SeenTold e x → built x ≡ true → is_hidden_thing x ≡ false → IsThere ReachedTold (thing_reached e p q x)
   named_told p q (t.Variable v) h is seen = variable_told p q v h
@@ -139,7 +162,7 @@ module _ (e : Env) (P : Property e.types (seen e) e.withs (reach e)) (told : Env
       (record { sort = refl; deep = subst (λ n. n ≤ d + 1) (sym (field_depth p.place i)) h.deep; good = P.field p i f (ap (λ s. field_at e.types s i) h.sort ∙ at) h.good })
 
   held_told : (w r : ℕ) → slice_get e.withs w ≡ Some r → IsThere (LiesAt P r 1) (held_at e.withs w)
-  held_told w r at = subst (λ o. IsThere (LiesAt P r 1) (places.held_by e.withs w o)) (sym at) (record { sort = refl; deep = at_most (root_depth (root.Held _) r); good = P.held w r at })
+  held_told w r at = subst (λ o. IsThere (LiesAt P r 1) (places.held_by e.withs w o)) (sym at) (record { sort = refl; deep = at_most (held_depth _ r); good = P.held w r at })
     where
       at_most : {n : ℕ} → n ≡ 1 → n ≤ 1 + 1
       at_most is = omega (arith, is)
@@ -154,9 +177,9 @@ module _ (e : Env) (P : Property e.types (seen e) e.withs (reach e)) (told : Env
   root_right p x = name_right p x.place x.place (look e x.name) (look_told e told x.name)
 
   -- ---- fields
-  part_field_right : (dot : Place) (x : Ident) (a : Part) → PartTold P a → Right (IsThere ReachedTold) (part_field e.types dot x a)
+  place_field_right : (dot : Place) (x : Ident) (a : Part) → PartTold P a → IsPlace P a → Right (IsThere ReachedTold) (part_field e.types dot x a)
   unfolding part_field
-  part_field_right dot x a h clear = by (field e.types h.sort x.name) refl (ap (λ kind. record_kind e.types kind) (sym h.is) ∙ is_so (record_kind e.types a.kind) clear.0) clear.1.0
+  place_field_right dot x a all h clear = by (field e.types h.sort x.name) refl (ap (λ kind. record_kind e.types kind) (sym h.is) ∙ is_so (record_kind e.types a.kind) clear.0) clear.1.0
     where
       is_field : (o : Option FieldAt) → field e.types h.sort x.name ≡ o → field_of e.types a.kind x.name ≡ o
       is_field o at = ap (λ kind. field_of e.types kind x.name) h.is ∙ at
@@ -168,7 +191,14 @@ module _ (e : Env) (P : Property e.types (seen e) e.withs (reach e)) (told : Env
           let g = field_is e.types told.types h.sort x.name f at in
           subst (λ c. IsThere ReachedTold (field_value e.types c a (field_of e.types a.kind x.name))) (sym (ap (record_kind e.types) h.is ∙ rec))
           (subst (λ o. IsThere ReachedTold (field_found e.types a o)) (sym (is_field (Some f) at))
-          (record { sort = f.sort; is = refl; lies = g.1; place = field_told h.sort a.depth f.number f.sort a.place g.0 h.place; some = h.some; few = h.few }))
+          (place_told P (with_field e.types a f) f.sort (places.field_of e.types f.number (located_in a.form)) refl refl g.1 (field_told h.sort a.depth f.number f.sort (located_in a.form) g.0 h.place) all.some all.few))
+
+  part_field_right : (dot : Place) (x : Ident) (a : Part) → PartTold P a → Right (IsThere ReachedTold) (part_field e.types dot x a)
+  unfolding part_field
+  part_field_right dot x a h clear = elim (which P a h) [
+    | inl place ↦ place_field_right dot x a h place clear
+    | inr opened ↦ absurd (true≢false (sym (ap (λ kind. not (record_kind e.types kind)) opened.is) ∙ clear.0))
+  ]
 
   refused : {A : Type 0} (o : Named) (p : Place) (f : FaultKind) → Clear (refused_rows o p f) → A
   refused o p f clear = absurd (both (is_misplaced o.thing) clear.0 clear.1.0)
@@ -195,10 +225,9 @@ module _ (e : Env) (P : Property e.types (seen e) e.withs (reach e)) (told : Env
   field_right dot x (Some (reached.Other o)) h clear = other_field_right dot x o h clear
 
   -- ---- elements
-  element_told : (s d r : ℕ) (i : Found) (p : checked.ArrayParts) (o : Option Located) → IsArray e.types s p → IsFound P i → IsRaised d 2 i.depth r → assignable e.types p.index i.kind ≡ true → misses e.types p.index i.kind ≡ false
-      → IsThere (LiesAt P s d) o → IsThere (LiesAt P p.element r) (places.element_of e.types i o)
-  element_told s d r i p None g j deep so out h = h
-  element_told s d r i p (Some q) g j deep so out h =
+  element_told : (s d r : ℕ) (i : Found) (p : checked.ArrayParts) (f : Form) → IsArray e.types s p → IsFound P i → IsRaised d 2 i.depth r → assignable e.types p.index i.kind ≡ true → misses e.types p.index i.kind ≡ false
+      → IsThere (LiesAt P s d) (located_in f) → IsThere (LiesAt P p.element r) (places.element_of e.types i f)
+  element_told s d r i p (form.Located q) g j deep so out h =
       let o : IsOrdinal e.types p.index g.span.0 = known_ordinal e.types told.types p.index g.span.0 g.span.1 in
       let at : array_at e.types q.sort ≡ Some _ = ap (array_at e.types) h.sort ∙ g.at in
       subst (λ a. IsThere (LiesAt P p.element r) (element_by e.types i q a)) (sym at)
@@ -216,31 +245,49 @@ module _ (e : Env) (P : Property e.types (seen e) e.withs (reach e)) (told : Env
         deep = subst (λ n. n ≤ r + 1) (sym (index_depth q.place j x)) (deeper (place_depth (place_of q.place)) (depth (expression_of x)) h.deep y.1);
         good = P.index q _ j x at kind y.0 h.good y.2;
       }
+  element_told s d r i p _ g j deep so out h = absurd h
+
+  -- one along an open array
+  along_told : (s d r : ℕ) (i : Found) (o : OpenArray) → OpensAt P s o → IsFound P i → IsRaised d 2 i.depth r → assignable e.types cardinal i.kind ≡ true → misses e.types cardinal i.kind ≡ false → IsThere (LiesAt P s r) (element_along o (typed e.types cardinal i))
+  along_told s d r i o opens j deep so out = by (typed e.types cardinal i) (stores_suits P (plain b.Cardinal) i.depth _ refl (assignable_stores P told.types cardinal (plain b.Cardinal) i refl j so out))
+    where
+      deeper : (n : ℕ) → n ≤ i.depth + 1 → 2 + n ≤ r + 1
+      deeper n u = omega (arith, deep.right, u)
+
+      by : (x : Option RExpr) → IsThere (Suits P (plain b.Cardinal) i.depth) x → IsThere (LiesAt P s r) (element_along o x)
+      by None y = y
+      by (Some x) y = record {
+        sort = opens.sort;
+        deep = subst (λ n. n ≤ r + 1) (sym (along_depth o.levels o.number x o.sort)) (deeper (depth (expression_of x)) y.1);
+        good = P.along o x y.0 opens.good y.2;
+      }
 
   part_index_right : (bracket : Place) (a : Part) (i : Found) → PartTold P a → IsFound P i → Right (IsThere ReachedTold) (part_index e.types bracket a i)
   unfolding part_index
-  part_index_right bracket a i h j clear = by (array_parts e.types h.sort) refl clear.1
+  part_index_right bracket a i h j clear = elim (which P a h) [
+    | inl place ↦ by_place place (array_parts e.types place.sort) refl
+    | inr opened ↦ chosen (record { index = cardinal; element = opened.sort }) (ap (parts_of e.types) opened.is) opened.lies (λ r deep so out.
+        subst (λ f. IsThere (LiesAt P opened.sort r) (places.element_of e.types i f)) (sym opened.form) (along_told opened.sort a.depth r i opened.array opened.opens j deep so out))
+  ]
     where
-      are_parts : (o : Option checked.ArrayParts) → array_parts e.types h.sort ≡ o → parts_of e.types a.kind ≡ o
-      are_parts o at = ap (parts_of e.types) h.is ∙ at
-
-      by : (o : Option checked.ArrayParts) → array_parts e.types h.sort ≡ o → Clear (index_rows e.types bracket i.first i.kind (parts_of e.types a.kind)) → IsThere ReachedTold (element_value e.types a i (parts_of e.types a.kind) (raised a.depth 2 i.depth))
-      by None at rows = absurd (true≢false (subst (λ o. Clear (index_rows e.types bracket i.first i.kind o)) (are_parts None at) rows).0)
-      by (Some p) at rows =
-          let asked = subst (λ o. Clear (index_rows e.types bracket i.first i.kind o)) (are_parts (Some p) at) rows in
+      -- by an index that is right
+      chosen : (p : checked.ArrayParts) → parts_of e.types a.kind ≡ Some p → lies_at e.types p.element ≡ true
+          → ((r : ℕ) → IsRaised a.depth 2 i.depth r → assignable e.types p.index i.kind ≡ true → misses e.types p.index i.kind ≡ false → IsThere (LiesAt P p.element r) (places.element_of e.types i a.form))
+          → IsThere ReachedTold (element_value e.types a i (parts_of e.types a.kind) (raised a.depth 2 i.depth))
+      chosen p at lies element =
+          let asked = subst (λ o. Clear (index_rows e.types bracket i.first i.kind o)) at clear.1 in
           let so = is_so (assignable e.types p.index i.kind) asked.0 in
           let deep = raised_is a.depth 2 i.depth clear.0 in
-          subst (λ o. IsThere ReachedTold (element_value e.types a i o (raised a.depth 2 i.depth))) (sym (are_parts (Some p) at))
+          subst (λ o. IsThere ReachedTold (element_value e.types a i o (raised a.depth 2 i.depth))) (sym at)
           (subst (λ d. IsThere ReachedTold (element_found e.types a i p d)) (sym deep.1)
           (kept_if ReachedTold (index_fits e.types p i.kind) (reached.Part (with_index e.types a i p deep.0)) (λ l. so l && not (asked.1.0 l))
-          (record {
-            sort = p.element;
-            is = refl;
-            lies = (array_is e.types told.types h.sort p at).element;
-            place = element_told h.sort a.depth deep.0 i p a.place (array_is e.types told.types h.sort p at) j deep.2 so asked.1.0 h.place;
-            some = omega (arith, h.some, deep.2.left);
-            few = deep.2.few;
-          })))
+          (place_told P (with_index e.types a i p deep.0) p.element (places.element_of e.types i a.form) refl refl lies (element deep.0 deep.2 so asked.1.0) (omega (arith, h.some, deep.2.left)) deep.2.few)))
+
+      by_place : (place : IsPlace P a) (o : Option checked.ArrayParts) → array_parts e.types place.sort ≡ o → IsThere ReachedTold (element_value e.types a i (parts_of e.types a.kind) (raised a.depth 2 i.depth))
+      by_place place None at = absurd (true≢false (subst (λ o. Clear (index_rows e.types bracket i.first i.kind o)) (ap (parts_of e.types) place.is ∙ at) clear.1).0)
+      by_place place (Some p) at =
+          let its = array_is e.types told.types place.sort p at in
+          chosen p (ap (parts_of e.types) place.is ∙ at) its.element (λ r deep so out. element_told place.sort a.depth r i p a.form its j deep so out place.place)
 
   other_index_right : (bracket : Place) (o : Named) (i : Found) → Right (IsThere ReachedTold) (other_index bracket o (Some i))
   unfolding other_index
@@ -265,9 +312,9 @@ module _ (e : Env) (P : Property e.types (seen e) e.withs (reach e)) (told : Env
       ap (target_by e.types) (ap (kind_at e.types) h.sort ∙ g.kind) ∙ ap (target_with e.types s) g.pointed ∙ ap (λ c. if c then Some (record { pointer = s; sort = m }) else None) g.target in
       subst (λ o. IsThere (LiesAt P m d) (places.target_by p o)) (sym at) (record { sort = refl; deep = subst (λ n. n ≤ d + 1) (sym (follow_depth p.place s)) h.deep; good = P.follow p _ at h.good })
 
-  part_follow_right : (arrow : Place) (a : Part) → PartTold P a → Right (IsThere ReachedTold) (part_follow e.types arrow a)
+  place_follow_right : (arrow : Place) (a : Part) → PartTold P a → IsPlace P a → Right (IsThere ReachedTold) (part_follow e.types arrow a)
   unfolding part_follow
-  part_follow_right arrow a h clear = by (target e.types h.sort) refl clear.1.0
+  place_follow_right arrow a all h clear = by (target e.types h.sort) refl clear.1.0
     where
       clear_kind : opaque_kind e.types a.kind ≡ false
       clear_kind = ap (opaque_kind e.types) h.is ∙ never_opaque e.types told.types h.sort
@@ -281,7 +328,14 @@ module _ (e : Env) (P : Property e.types (seen e) e.withs (reach e)) (told : Env
           let g = target_is e.types told.types h.sort m at in
           subst (λ c. IsThere ReachedTold (target_value e.types c a (target_of e.types a.kind))) (sym clear_kind)
           (subst (λ o. IsThere ReachedTold (target_found e.types a o)) (sym (is_target (Some m) at))
-          (record { sort = m; is = refl; lies = g.target; place = pointed_told h.sort a.depth m a.place g h.place; some = h.some; few = h.few }))
+          (place_told P (with_follow e.types a m) m (places.target_of e.types (located_in a.form)) refl refl g.target (pointed_told h.sort a.depth m (located_in a.form) g h.place) all.some all.few))
+
+  part_follow_right : (arrow : Place) (a : Part) → PartTold P a → Right (IsThere ReachedTold) (part_follow e.types arrow a)
+  unfolding part_follow
+  part_follow_right arrow a h clear = elim (which P a h) [
+    | inl place ↦ place_follow_right arrow a h place clear
+    | inr opened ↦ absurd (true≢false (sym (ap (λ kind. not (opaque_kind e.types kind) && is_none (target_of e.types kind)) opened.is) ∙ clear.1.0))
+  ]
 
   -- nothing may lie behind one that waits for its target, and then W is so
   module _ (W : Type 0) (waits : (n : ℕ) → waits_for e n ≡ true → W) where
@@ -289,7 +343,10 @@ module _ (e : Env) (P : Property e.types (seen e) e.withs (reach e)) (told : Env
     reached_follow_right arrow a h = by (is_waiting e a.kind) refl
       where
         by : (c : Bool) → is_waiting e a.kind ≡ c → Right (IsThereOr W ReachedTold) (if c then (None, []) else part_follow e.types arrow a)
-        by true is clear = waits h.sort (sym (ap (is_waiting e) h.is) ∙ is)
+        by true is clear = elim (which P a h) [
+          | inl place ↦ waits place.sort (sym (ap (is_waiting e) place.is) ∙ is)
+          | inr opened ↦ absurd (true≢false (sym is ∙ ap (is_waiting e) opened.is))
+        ]
         by false is clear = there_or W ReachedTold (part_follow e.types arrow a).0 (part_follow_right arrow a h clear)
 
     pub follow_right : (arrow : Place) (o : Option Reached) → IsThereOr W ReachedTold o → Right (IsThereOr W ReachedTold) (follow_node e arrow o)
@@ -321,7 +378,7 @@ module _ (e : Env) (P : Property e.types (seen e) e.withs (reach e)) (told : Env
   value_right (Some (reached.Part a)) h clear = (part_told P a h).0
   value_right (Some (reached.Other o)) h clear = thing_right o h clear
 
-  pub variable_right : (o : Option Reached) → IsThere ReachedTold o → Right (IsThere (λ a. IsFound P a × IsLocated a.form)) (variable_node o)
+  pub variable_right : (o : Option Reached) → IsThere ReachedTold o → Right (IsThere (λ a. IsFound P a × IsPlaced a.kind a.form)) (variable_node o)
   variable_right None h clear = h
   variable_right (Some (reached.Part a)) h clear = part_told P a h
   variable_right (Some (reached.Other o)) h clear = absurd (true≢false clear.0)
@@ -334,14 +391,17 @@ module _ (e : Env) (P : Property e.types (seen e) e.withs (reach e)) (told : Env
   callee_told (t.Type s) h c = absurd (true≢false c)
   callee_told (t.Procedure x) h c = (h.0, h.3, omega (arith, h.3.low), h.3.few)
   callee_told (t.Resident x s) h c = (h.0.0, h.0.1, h.1)
-  callee_told (t.Standard x) h c = h.1
+  callee_told (t.Standard x) h c = tt
   callee_told (t.Module n) h c = absurd (true≢false c)
   callee_told t.Hidden h c = absurd (true≢false (sym h.2))
   callee_told t.Broken h c = absurd h.0
 
   pub called_right : (o : Option Reached) → IsThere ReachedTold o → Right (IsThere (CalleeTold e.types (reach e))) (callee_node e o)
   called_right None h clear = h
-  called_right (Some (reached.Part a)) h clear = subst (λ kind. CalleeTold e.types (reach e) (part_callee kind a)) (sym h.is) h.lies
+  called_right (Some (reached.Part a)) h clear = elim (which P a h) [
+    | inl place ↦ subst (λ kind. CalleeTold e.types (reach e) (part_callee kind a)) (sym place.is) place.lies
+    | inr opened ↦ subst (λ kind. CalleeTold e.types (reach e) (part_callee kind a)) (sym opened.is) tt
+  ]
   called_right (Some (reached.Other o)) h clear = callee_told o.thing h clear.0
 
   type_told : (p : Place) (x : Thing) → NamedTold x → no_type_in x ≡ false → ArgumentTold P (argument.Type p (type_in x))

@@ -19,7 +19,7 @@ use Rattle.lil_operators.specs.{declared.operations.Chained.Chained, Operations.
 use Rattle.lil_check_value.specs.{Tree.{Lifts, Truths, Nodes, means_true, variable_true, call_true}, Values.{first_of, whole_node, code_node, text_node, begun_at, means, as_constant, asked_means, variable_means, call_means}, Designators.{root_means, field_node, other_index, index_node, value_node, callee_node, typed_node}, declared.designators.Reached.Reached}
 use Rattle.lil_check_value.specs.declared.designators.Reached.TheVariants as reached
 use Rattle.lil_right_call.specs.{Calls.{call_node_right, statement_node_right}, Told.{ArgumentOr, ArgumentTold, argument_or, arguments_or, CalleeTold}}
-use Rattle.lil_right_type.specs.{Found.{reach, IsLocated, IsFound, EnvTold}, Right.{Clear, Right, IsThere, IsThereOr, there_or, given_or, node_or, clear_none, clear_left, clear_right, after_right, is_so}, Typed.is_character_number, Types.own_base}
+use Rattle.lil_right_type.specs.{Found.{reach, IsPlaced, IsFound, EnvTold}, Right.{Clear, Right, IsThere, IsThereOr, there_or, given_or, node_or, clear_none, clear_left, clear_right, after_right, is_so}, Typed.is_character_number, Types.own_base}
 use Rattle.lil_right_value.specs.{Operators.{ChainTold, one_node_right, begun_right, two_node_right, chain_right}, Reach.{ReachedTold, root_right, field_right, index_right, follow_right, value_right, variable_right, called_right, typed_right}, Sets.{IsSort, AreElements, no_elements_told, joined_one_told, joined_range_told, set_node_right, set_sort_right}}
 
 -- a phrase is right where its value is, if no test finds a fault
@@ -161,8 +161,8 @@ module _ (e : Env) (P : Property e.types (seen e) e.withs (reach e)) (told : Env
   pub means_right : (x : Expr) → Right (IsThere (IsFound P)) (means e x)
   means_right = means_or e P told ⊥ (none_waits e.waits settled)
 
-  pub variable_means_right : (d : Designator) → Right (IsThere (λ a. IsFound P a × IsLocated a.form)) (variable_means e d)
-  variable_means_right = variable_true Clearly lifts e (truths e P told ⊥ (none_waits e.waits settled)) (nodes e P told ⊥ (none_waits e.waits settled)) (IsThere (λ a. IsFound P a × IsLocated a.form)) (variable_right e P told)
+  pub variable_means_right : (d : Designator) → Right (IsThere (λ a. IsFound P a × IsPlaced a.kind a.form)) (variable_means e d)
+  variable_means_right = variable_true Clearly lifts e (truths e P told ⊥ (none_waits e.waits settled)) (nodes e P told ⊥ (none_waits e.waits settled)) (IsThere (λ a. IsFound P a × IsPlaced a.kind a.form)) (variable_right e P told)
 
 pub call_means_right : (e : Env) {ts : Scope} (fits : Fits e.types (seen e) e.withs (reach e) ts) → EnvTold e → e.waits ≡ [] → (looping : Bool) (d : Designator) (xs : List Expr) → Right (IsThere (StatementSound ts looping)) (call_means e d xs)
 call_means_right e {ts} fits told settled looping =

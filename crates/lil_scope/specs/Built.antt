@@ -1,15 +1,10 @@
 -- Whose names may stand in a program that runs.
 use Rattle.std.specs.Prelude.{◌==◌, Bool, true, false, not, ◌||◌}
 use Rattle.lil_types.specs.Types.{proc, process}
-use Rattle.lil_declared.specs.declared.standard.{Standard.Standard, Resident.Resident}
-use Rattle.lil_declared.specs.declared.standard.Standard.TheVariants as s
+use Rattle.lil_declared.specs.declared.standard.Resident.{Resident}
 use Rattle.lil_declared.specs.declared.standard.Resident.TheVariants as r
 use Rattle.lil_scope.specs.declared.thing.Thing.{Thing}
 use Rattle.lil_scope.specs.declared.thing.Thing.TheVariants as t
-
-abbrev pub standard_built : Standard → Bool
-standard_built s.High = false
-standard_built _ = true
 
 abbrev pub resident_built : Resident → Bool
 resident_built r.Read = false
@@ -20,6 +15,5 @@ resident_built _ = true
 -- types but PROC and PROCESS, and what is built of the other things
 abbrev pub built : Thing → Bool
 built (t.Type n) = not (n == proc || n == process)
-built (t.Standard x) = standard_built x
 built (t.Resident x n) = resident_built x
 built _ = true

@@ -2,7 +2,7 @@ ghost use Rattle.std.specs.Prelude.{◌≡◌};
 ghost use Rattle.lil_scope.specs.Built as spec;
 
 use crate::thing::Thing;
-use lil_declared::{Resident, Standard};
+use lil_declared::Resident;
 use lil_types::{PROC, PROCESS};
 
 /// Whether programs that use the name of this thing may run. PROC and PROCESS aren't built.
@@ -11,10 +11,6 @@ pub fn is_built(thing: Thing) -> bool
 {
     match thing {
         Thing::Type(sort) => !(sort == PROC || sort == PROCESS),
-        Thing::Standard(standard) => match standard {
-            Standard::High => false,
-            _ => true,
-        },
         Thing::Resident(Resident::Read | Resident::NewProcess | Resident::Transfer, _) => false,
         _ => true,
     }

@@ -5,7 +5,7 @@ use Rattle.std.proofs.lemmas.{List.{map_push, map_more}, Option.same_Some}
 use Rattle.lil_declared.specs.declared.declared.RVar.{RVar}
 use Rattle.lil_resolved.specs.{Kinds.{Shape, words, is_there, all_words, offsets_from, shape_by, shape_at}, Views.{name_of, offset_of, held_by, shape_declared}, declared.resolved.{RDeclared.RDeclared, RPassing.RPassing}}
 use Rattle.lil_resolved.specs.declared.resolved.RPassing.TheVariants as passing
-use Rattle.lil_shapes.specs.{declared.{laying.Laid.Laid, shapes.Shaped.Shaped}, Measured.{shapes_in, words_held, variable_name, shapes_laid, IsLaidFrom, IsLaid}, Shaping.{there, passing_of, held_as, lying}, ListLaws.some_more}
+use Rattle.lil_shapes.specs.{declared.{laying.Laid.Laid, shapes.Shaped.Shaped}, Measured.{shapes_in, words_held, variable_name, shapes_laid, IsLaidFrom, IsLaid}, Shaping.{there, passing_of, lying}, ListLaws.some_more}
 use Rattle.lil_shapes.proofs.ShapeLaws.{words_more, offsets_more}
 
 -- variables so far, and how many words they take
@@ -25,29 +25,23 @@ there_none : (o : Option Shape) → None ≡ option_map words o → o ≡ None
 there_none None h = refl
 there_none (Some s) h = absurd (cc)
 
-held_none : (o : Option RPassing) → held_as o None ≡ None
-held_none None = refl
-held_none (Some p) = refl
-
 pub lying_none : (s : Shaped) (v : RVar) → None ≡ option_map words (there (slice_get (shapes_in s) v.sort)) → lying (shapes_in s) v ≡ None
-lying_none s v h = ap (held_as (passing_of v.mode)) (there_none (there (slice_get (shapes_in s) v.sort)) h) ∙ held_none (passing_of v.mode)
-
-pub lying_open : (s : Shaped) (v : RVar) → None ≡ passing_of v.mode → lying (shapes_in s) v ≡ None
-lying_open s v h = ap (λ (o : Option RPassing). held_as o (there (slice_get (shapes_in s) v.sort))) (sym h)
+lying_none s v h = ap (option_map (held_by (passing_of v.mode))) (there_none (there (slice_get (shapes_in s) v.sort)) h)
 
 held_words : (p : RPassing) (t : Shape) → words_held p (words t) ≡ words (held_by p t)
 held_words passing.ByValue t = refl
 held_words passing.ByPlace t = refl
+held_words (passing.Open o) t = refl
 
 -- one variable more
 module _ (first : ℕ) (s : Shaped) (vs : List RVar) (i : ℕ) (v : RVar) (ds : List RDeclared) (n w : ℕ) (p : RPassing) (inside : i < length vs) (at : v ≡ get_or vs i v) (h : IsLaidFrom first s (take i vs) (laid_with ds n))
-    (known : Some w ≡ option_map words (there (slice_get (shapes_in s) v.sort))) (passed : Some p ≡ passing_of v.mode) where
+    (known : Some w ≡ option_map words (there (slice_get (shapes_in s) v.sort))) (passed : p ≡ passing_of v.mode) where
   pub variable_laid : (new : List RDeclared) (d : RDeclared) (e : ℕ) → new ≡ ds ++ d ∷ [] → d.name ≡ v.name → d.offset ≡ min (n + first) 65535 → d.shape ≡ v.sort → d.passing ≡ p → e ≡ min (n + words_held p w) 65535 → IsLaidFrom first s (take (i + 1) vs) (laid_with new e)
   variable_laid new d e is name offset sort value next =
       let before = shapes_laid s (laid_with ds n) in
       let part = there_known (slice_get (shapes_in s) v.sort) w known in
       let here : held_by p (shape_at (shapes_in s) v.sort) ≡ shape_declared s.shapes d = λ j. held_by (sym value j) (shape_at (shapes_in s) (sym sort j)) in
-      let lies : lying (shapes_in s) v ≡ Some (shape_declared s.shapes d) = (λ j. held_as (sym passed j) (part.0 j)) ∙ ap Some here in
+      let lies : lying (shapes_in s) v ≡ Some (shape_declared s.shapes d) = (λ j. option_map (held_by (sym passed j)) (part.0 j)) ∙ ap Some here in
       let more : map (shape_declared s.shapes) new ≡ before ++ shape_declared s.shapes d ∷ [] = ap (map (shape_declared s.shapes)) is ∙ map_push (shape_declared s.shapes) ds d in
       let last : words_held p w ≡ words (shape_declared s.shapes d) = ap (words_held p) part.1 ∙ held_words p (shape_at (shapes_in s) v.sort) ∙ ap words here in
       let from : d.offset ≡ min 65535 (first + all_words before) = omega (arith, offset, h.words) in

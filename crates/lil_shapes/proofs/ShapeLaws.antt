@@ -169,7 +169,7 @@ sized Blank h = refl
 sized (Join a b) h = refl
 sized (Row n t) h = refl
 sized (Address t) h = absurd ((h t).0 refl)
-sized (Opened t) h = absurd ((h t).1 refl)
+sized (Opened copied t) h = absurd ((h t).1 copied refl)
 
 pub words_sized : (ts : List RShape) (n : ℕ) (size : Option ℕ) → slice_get (map size_of (shapes_of ts)) n ≡ Some size → Some (words_by size) ≡ option_map words (slice_get (shapes_of ts) n)
 words_sized ts n size e = by (slice_get (shapes_of ts) n) (plain_at ts n) (sym (slice_get-map size_of (shapes_of ts) n) ∙ e)

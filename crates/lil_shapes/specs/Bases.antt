@@ -105,18 +105,18 @@ kind_over (Some k) e = kind_by k e
 abbrev pub kind_at : Table → ℕ → Option RKind
 kind_at t s = kind_over (base_at t (base t s)) (entry t s)
 
--- ---- arrays of characters: those whose elements are of CHAR itself
+-- ---- how many elements arrays have
 
 abbrev pub numbers_of : RKind → ℕ
 numbers_of k = numbers (kind_view k)
 
-abbrev pub characters_in : Table → Option ArrayParts → Option ℕ
-characters_in t None = None
-characters_in t (Some parts) = if parts.element == char then option_map numbers_of (kind_at t parts.index) else None
+abbrev pub elements_in : Table → Option ArrayParts → Option ℕ
+elements_in t None = None
+elements_in t (Some parts) = option_map numbers_of (kind_at t parts.index)
 
--- how many characters an array of a type has, None for any other type
-abbrev pub characters_at : Table → ℕ → Option ℕ
-characters_at t s = characters_in t (array_at t s)
+-- an array of a type, None for any other type
+abbrev pub elements_at : Table → ℕ → Option ℕ
+elements_at t s = elements_in t (array_at t s)
 
 -- ---- what may be in a set: numbers of a kind, and their base type
 

@@ -1,7 +1,7 @@
 -- What shapes and variables that are made say, and that their words are counted.
 use Rattle.std.specs.Prelude.{◌≡◌, ℕ, ◌+◌, ◌≤◌, min, nat_le, List, [], map, Option, Some, None, if◌then◌else◌}
 use Rattle.lil_declared.specs.declared.declared.RVar.{RVar}
-use Rattle.lil_resolved.specs.{Kinds.{Shape, words, is_there, all_words, offsets_from}, Views.{shapes_of, shape_with, shape_declared, name_of, offset_of, IsMeasuredShape, AreMeasured}, declared.resolved.RPassing.{RPassing, TheVariants.{ByValue, ByPlace}}}
+use Rattle.lil_resolved.specs.{Kinds.{Shape, words, is_there, all_words, offsets_from}, Views.{shapes_of, shape_with, shape_declared, name_of, offset_of, IsMeasuredShape, AreMeasured}, declared.resolved.RPassing.{RPassing, TheVariants.{ByValue, ByPlace, Open}}}
 use Rattle.lil_shapes.specs.{declared.{laying.Laid.Laid, shapes.{Made.Made, Shaped.Shaped}}, Shaping.{all_some, lying}}
 
 -- how many words a shape takes, if it is there
@@ -38,6 +38,7 @@ pub record IsMade (s : Shaped) (x : Made) : Type 0 where
 abbrev pub words_held : RPassing → ℕ → ℕ
 words_held ByValue n = n
 words_held ByPlace n = 1
+words_held (Open o) n = 2
 
 abbrev pub variable_name : RVar → List ℕ
 variable_name v = v.name

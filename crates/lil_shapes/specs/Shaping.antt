@@ -4,7 +4,7 @@ use Rattle.std.specs.Option.{option_map}
 use Rattle.lil_types.specs.{Types.{Table, entry}, declared.table.{Field.Field, TypeForm.{TypeForm, TheVariants.{Array, Record}}, TypeEntry.TypeEntry}}
 use Rattle.lil_declared.specs.declared.declared.{Mode.Mode, RVar.RVar}
 use Rattle.lil_declared.specs.declared.declared.Mode.TheVariants as mode
-use Rattle.lil_resolved.specs.{Kinds.{numbers, Shape, Absent, Word, Row, words, is_there, all_words, fields_of}, Views.{kind_view, held_by}, declared.resolved.{RKind.RKind, RPassing.{RPassing, TheVariants.{ByValue, ByPlace}}}}
+use Rattle.lil_resolved.specs.{Kinds.{numbers, Shape, Absent, Word, Row, words, is_there, all_words, fields_of}, Views.{kind_view, held_by}, declared.resolved.{RKind.RKind, RPassing.{RPassing, TheVariants.{ByValue, ByPlace, Open}}, ROpening.TheVariants.{Copied, Lent}}}
 use Rattle.lil_shapes.specs.Bases.{kind_at}
 
 -- ---- lists
@@ -66,21 +66,17 @@ abbrev pub there : Option Shape → Option Shape
 there None = None
 there (Some s) = if is_there s then Some s else None
 
--- how a variable holds what it means: no code is made of open arrays
-abbrev pub passing_of : Mode → Option RPassing
-passing_of mode.Plain = Some ByValue
-passing_of mode.Value = Some ByValue
-passing_of mode.Place = Some ByPlace
-passing_of mode.OpenValue = None
-passing_of mode.OpenPlace = None
+-- how a variable holds what it means
+abbrev pub passing_of : Mode → RPassing
+passing_of mode.Plain = ByValue
+passing_of mode.Value = ByValue
+passing_of mode.Place = ByPlace
+passing_of mode.OpenValue = Open Copied
+passing_of mode.OpenPlace = Open Lent
 
-abbrev pub held_as : Option RPassing → Option Shape → Option Shape
-held_as None o = None
-held_as (Some p) o = option_map (held_by p) o
-
--- what a variable of a mode and a type holds, where something lies in it or where it leads to
+-- what a variable of a mode and a type holds, where something lies in it, where it leads to, or in each element of an open array
 abbrev pub held_in : List Shape → Mode → ℕ → Option Shape
-held_in ts m s = held_as (passing_of m) (there (slice_get ts s))
+held_in ts m s = option_map (held_by (passing_of m)) (there (slice_get ts s))
 
 abbrev pub lying : List Shape → RVar → Option Shape
 lying ts v = held_in ts v.mode v.sort

@@ -5,7 +5,7 @@ ghost use Rattle.lil_shapes.specs.Shaping as spec;
 use crate::shapes::{Shaped, size_at};
 use lil_base::{Items, Memory};
 use lil_declared::{Mode, RVar};
-use lil_resolved::{RDeclared, RPassing};
+use lil_resolved::{RDeclared, ROpening, RPassing};
 use std::alloc::Global;
 
 /// Variables one behind another, and how many words they take.
@@ -15,24 +15,26 @@ pub struct Laid {
     pub words: u16,
 }
 
-/// How a variable holds what it means, None for an open array.
-fn passing_of(mode: Mode) -> Option<RPassing>
+/// How a variable holds what it means.
+fn passing_of(mode: Mode) -> RPassing
     ensures { result ≡ spec.passing_of mode }
 {
     match mode {
-        Mode::Plain | Mode::Value => Some(RPassing::ByValue),
-        Mode::Place => Some(RPassing::ByPlace),
-        Mode::OpenValue | Mode::OpenPlace => None,
+        Mode::Plain | Mode::Value => RPassing::ByValue,
+        Mode::Place => RPassing::ByPlace,
+        Mode::OpenValue => RPassing::Open(ROpening::Copied),
+        Mode::OpenPlace => RPassing::Open(ROpening::Lent),
     }
 }
 
-/// The words of a variable: those that lie in it, or one for an address.
+/// The words of a variable: those that lie in it, one for an address, or two for an open array.
 fn words_held(passing: RPassing, size: u16) -> u16
     ensures { result ≡ words_held passing size }
 {
     match passing {
         RPassing::ByValue => size,
         RPassing::ByPlace => 1,
+        RPassing::Open(_) => 2,
     }
 }
 
@@ -44,9 +46,7 @@ fn lay_from(alloc: Global, types: &Shaped, of: &[RVar], first: u16) -> Result<Op
     let mut variables = Items::new(alloc);
     let mut words: u16 = 0;
     for one in of {
-        let Some(passing) = passing_of(one.mode) else {
-            return Ok(None);
-        };
+        let passing = passing_of(one.mode);
         let Some(size) = size_at(types, one.sort) else {
             return Ok(None);
         };

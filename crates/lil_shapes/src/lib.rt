@@ -2,8 +2,8 @@
 #![tactic(auto)]
 
 mod bases;
-mod characters;
 mod composites;
+mod elements;
 mod laying;
 mod members;
 mod operators;
@@ -11,8 +11,8 @@ mod pointers;
 mod shapes;
 
 pub use bases::{base_at, kind_at};
-pub use characters::characters_at;
 pub use composites::{ArrayParts, array_at, composite_at, element_sort, field_at};
+pub use elements::elements_at;
 pub use laying::{Laid, lay, lay_locals};
 pub use members::{Members, members_at};
 pub use operators::{counted, counted_base};

@@ -2,6 +2,7 @@ pub mod Counting
 pub mod Strings
 pub mod Storing
 pub mod Placing
+pub mod Addressing
 pub mod Starting
 pub mod Stating
 pub mod Words

@@ -1,15 +1,15 @@
 -- The code of statements, form by form.
-use Rattle.std.proofs.Common.{◌≡◌, ℕ, zero, suc, ◌+◌, ◌*◌, ◌%◌, ◌<◌, ◌≤◌, min, Bool, true, List, [], ◌∷◌, ◌++◌, length, map, take, get_or, Option, Some, None, refl, sym, ap, ◌∙◌, subst, arith, append-nil, ℤ, Result, OnOk}
+use Rattle.std.proofs.Common.{◌≡◌, ℕ, zero, suc, ◌+◌, ◌*◌, ◌%◌, ◌<◌, ◌≤◌, min, Bool, true, List, [], ◌∷◌, ◌++◌, length, map, take, get_or, Option, Some, None, refl, sym, ap, ◌∙◌, subst, arith, append-nil, append_assoc, ℤ, Result, OnOk}
 use Rattle.std.specs.{Option.{is_some, option_map}, List.flat_map}
 use Rattle.std.proofs.lemmas.List.{take_more, take_all, length-take-le}
 use Rattle.lil_base.specs.Words.{word_of}
 use Rattle.lil_resolved.specs.{declared.resolved.{RExpr.RExpr, RStmt.RStmt, RArm.RArm, RLabel.RLabel}, Kinds.{Kind, compared_as, is_ordinal, OfTruth, base_of, covers, outside_turns, Shape, Scope, with_held, shape_at}, Resolved.{Named, Label, Arms, kind_of, Designator, Expression, Statement, While, Repeat, Loop, For, Inside, Statements, Empty, Then, shape_of}}
-use Rattle.lil_resolved.specs.{Views.{expression_of, statement_of, statements_of, label_of, else_of, arms_of, case_is, arm_is, joined, guarded, guard_of, guards_of, shapes_of, guard_is}, Sizes.{arms_words, body_strings, arms_strings, statement_strings}, Sound.{IsSoundLabel, AreSoundLabels, AreSoundArms, IsSoundBody}, declared.resolved.RGuard.RGuard}
+use Rattle.lil_resolved.specs.{Views.{expression_of, statement_of, statements_of, label_of, else_of, arms_of, case_is, arm_is, joined, guarded, guard_of, guards_of, shapes_of, guard_is}, Sizes.{arms_words, place_strings, expression_strings, body_strings, arms_strings, statement_strings}, Sound.{IsSoundLabel, AreSoundLabels, AreSoundArms, IsSoundBody}, declared.resolved.RGuard.RGuard}
 use Rattle.lil_resolved.specs.declared.resolved.RStmt.TheVariants as s
 use Rattle.lil_asm.specs.declared.instr.Instr.{Instr, TheVariants.{Jmp, Cas, Trp, Liw, Llw, Slw, Jpf, Fri, Frn}}
 use Rattle.lil_table.specs.{Rows.{framed, IsAt, Access, access_at, store_code, EntriesAt, ArmsAt, loop_place, Layout, holding, BodyAt, loop_sign, test_code}, LabelLaws.label_in}
 use Rattle.lil_labels.specs.{Drafts.{Draft, Final, EntryAt, Entering, Meaning, Adds, Emits, Nothing, Doing, Each, Marking, Makes, Ends, inside, outside, DoingAll}, Emitting.{with_ok, take_next, each_more, emits_then, emits_as, adds_as, emits_within, emits_here, emits_fresh, emits_mark, emits_tied, emits_inside}, Tables.{Tables, declared_at, variable_by}}
-use Rattle.lil_expr.specs.{Generating.{Value, Addressed}, Variables.{known_row, known_access}}
+use Rattle.lil_expr.specs.{Strings.emits_end, Generating.{Value, Addressed}, Variables.{known_row, known_access}}
 use Rattle.lil_stmt.specs.Generating.{Body, StatementPart, statement_part, GuardPart, guard_part, paired, ArmPart, ArmBody, arm_part, Trapping, ElsePart, HasWords, LabelEntry, ArmLabels, ChoiceOf, entries, Stated, Aligning}
 use Rattle.lil_stmt.proofs.{Words.in_word, Counting.joined_words, Strings.{case_strings, body_parts, if_strings}, Storing.whole}
 
@@ -46,25 +46,23 @@ body_emitted n exit ss i a b past t =
 
 -- ---- loops
 module _ (n : ℕ) (exit : Option ℕ) (k : Expression) (s : Statements) where
-  pub while_emitted : (again end : ℕ) (a b c d e f g h : Draft) → Emits a b (Marking again) → Emits b c (Value k) → Emits c d Nothing → Makes c d end → Emits d e (Doing (λ w. Jpf (w end)))
-      → Adds (body_strings s) e f (Body n exit s) → Emits f g (Doing (λ w. Jmp (w again))) → Ends g h end → Adds (body_strings s) a h (Stated n exit (While k s))
+  pub while_emitted : (again end : ℕ) (a b c d e f g h : Draft) → Emits a b (Marking again) → Adds (expression_strings k) b c (Value k) → Emits c d Nothing → Makes c d end → Emits d e (Doing (λ w. Jpf (w end)))
+      → Adds (body_strings s) e f (Body n exit s) → Emits f g (Doing (λ w. Jmp (w again))) → Ends g h end → Adds (expression_strings k ++ body_strings s) a h (Stated n exit (While k s))
   while_emitted again end a b c d e f g h mark test new makes jump body back put =
-      adds_as a h _ (append-nil (body_strings s))
-      (emits_as a h _ (Stated n exit (While k s))
+      emits_as a h _ (Stated n exit (While k s))
       (λ x t many taken sound room.
       search (whole x 0 k OfTruth _ _ (omega arith) sound.0 t.0.1.0, t.0.1.1.1.0 many taken sound.1 room, rw t.1 at t.0.1.1.0, rw t.0.0 at t.0.1.1.1.1))
       (emits_here a g h _ end
-      (emits_mark a b g again _ mark (emits_then b c g _ _ test (emits_fresh c d g _ new (emits_then d e g _ _ jump (emits_then e f g _ _ body back)))))
-      (λ k h. makes.apart k (test.keeps k (mark.keeps k h))) put))
+      (emits_mark a b g again _ mark (emits_then b c g _ _ test (emits_fresh c d g _ new (emits_then d e g _ _ jump (emits_end e f g _ _ body back)))))
+      (λ k h. makes.apart k (test.keeps k (mark.keeps k h))) put)
 
-  pub repeat_emitted : (again : ℕ) (a b c d e : Draft) → Emits a b (Marking again) → Adds (body_strings s) b c (Body n exit s) → Emits c d (Value k) → Emits d e (Doing (λ w. Jpf (w again)))
-      → Adds (body_strings s) a e (Stated n exit (Repeat s k))
+  pub repeat_emitted : (again : ℕ) (a b c d e : Draft) → Emits a b (Marking again) → Adds (body_strings s) b c (Body n exit s) → Adds (expression_strings k) c d (Value k) → Emits d e (Doing (λ w. Jpf (w again)))
+      → Adds (body_strings s ++ expression_strings k) a e (Stated n exit (Repeat s k))
   repeat_emitted again a b c d e mark body test back =
-      adds_as a e _ (append-nil (body_strings s))
-      (emits_as a e _ (Stated n exit (Repeat s k))
+      emits_as a e _ (Stated n exit (Repeat s k))
       (λ x t many taken sound room.
       search (t.1.0 many taken sound.0 room, whole x 0 k OfTruth _ _ (omega arith) sound.1 t.1.1.0, rw t.0 at t.1.1.1))
-      (emits_mark a b e again _ mark (emits_then b c e _ _ body (emits_then c d e _ _ test back))))
+      (emits_mark a b e again _ mark (emits_then b c e _ _ body (emits_end c d e _ _ test back)))
 
 pub loop_emitted : (n : ℕ) (exit : Option ℕ) (s : Statements) (again end : ℕ) (a b c d e f : Draft)
     → Emits a b (Marking again) → Emits b c Nothing → Makes b c end → Adds (body_strings s) c d (Body n (Some end) s) → Emits d e (Doing (λ w. Jmp (w again))) → Ends e f end → Adds (body_strings s) a f (Stated n exit (Loop s))
@@ -78,11 +76,10 @@ loop_emitted n exit s again end a b c d e f mark new makes body back put =
 -- ---- IF
 -- a guard before whatever statements end at a label
 pub guard_emitted : (n : ℕ) (exit : Option ℕ) (g : RGuard) (end other : ℕ) (a b c d e f h : Draft)
-    → Emits a b (Value (expression_of g.condition)) → Emits b c Nothing → Makes b c other → Emits c d (Doing (λ w. Jpf (w other)))
-    → Adds (guard_part g) d e (Body n exit (statements_of g.body)) → Emits e f (Doing (λ w. Jmp (w end))) → Ends f h other → Adds (guard_part g) a h (GuardPart n exit end g)
+    → Adds (expression_strings (expression_of g.condition)) a b (Value (expression_of g.condition)) → Emits b c Nothing → Makes b c other → Emits c d (Doing (λ w. Jpf (w other)))
+    → Adds (body_strings (statements_of g.body)) d e (Body n exit (statements_of g.body)) → Emits e f (Doing (λ w. Jmp (w end))) → Ends f h other → Adds (guard_part g) a h (GuardPart n exit end g)
 guard_emitted n exit g end other a b c d e f h test new makes jump body skip put =
-    adds_as a h _ (append-nil (guard_part g))
-    (emits_as a h _ (GuardPart n exit end g)
+    emits_as a h _ (GuardPart n exit end g)
     (λ x t rest r ended more.
     subst (λ (ss : Statements). Body n exit ss x (length a.bytes) r) (sym (guard_is g rest))
     (λ many taken sound room. record {
@@ -90,7 +87,7 @@ guard_emitted n exit g end other a b c d e f h test new makes jump body skip put
       here = search (whole x 0 _ OfTruth _ _ (omega arith) sound.0.0 t.0.0, rw t.1 at t.0.1.0, t.0.1.1.0 many taken sound.0.1 (omega (arith, room)), rw ended at t.0.1.1.1, more many taken sound.0.2 (omega (arith, room)));
       then = refl;
     }))
-    (emits_here a f h _ other (emits_then a b f _ _ test (emits_fresh b c f _ new (emits_then c d f _ _ jump (emits_then d e f _ _ body skip)))) (λ k h. makes.apart k (test.keeps k h)) put))
+    (emits_here a f h _ other (emits_then a b f _ _ test (emits_fresh b c f _ new (emits_then c d f _ _ jump (emits_end d e f _ _ body skip)))) (λ k h. makes.apart k (test.keeps k h)) put)
 
 guards_at : (n : ℕ) (exit : Option ℕ) (end : ℕ) (gs : List RGuard) (x : Final) (p q r : ℕ) (rest : Statements) → Each (GuardPart n exit end) gs x p q → x.word end ≡ x.layout.target r → Body n exit rest x q r → Body n exit (guarded (map guard_of gs) rest) x p r
 guards_at n exit end [] x p q r rest h ended more = subst (λ (p : ℕ). Body n exit rest x p r) (sym h) more
@@ -121,12 +118,12 @@ store_emitted v at a b is store =
 
 module _ (n : ℕ) (exit : Option ℕ) (v : Named) (k : Kind) (from to : Expression) (step : ℤ) (body : Statements) where
   pub for_emitted : (word place sign inner end turn : ℕ) (at : Access) (c0 c1 c2 c3 c4 c5 c6 c7 c8 c9 c10 c11 c12 c13 : Draft) → word ≡ word_of step → place ≡ framed (loop_place n)
-      → sign ≡ loop_sign (compared_as (base_of k)) → at ≡ access_by c9.tables v → inner ≡ min (n + 3) 65535 → Emits c0 c1 (Value from) → Emits c1 c2 (Value to) → Emits c2 c3 Nothing → Makes c2 c3 end
+      → sign ≡ loop_sign (compared_as (base_of k)) → at ≡ access_by c9.tables v → inner ≡ min (n + 3) 65535 → Adds (expression_strings from) c0 c1 (Value from) → Adds (expression_strings to) c1 c2 (Value to) → Emits c2 c3 Nothing → Makes c2 c3 end
       → Emits c3 c4 (Aligning (covers (base_of k) (kind_of from)) (outside_turns (compared_as (base_of k)) step) end) → Emits c4 c5 (Doing (λ w. Liw word)) → Emits c5 c6 (Doing (λ w. Fri place sign (w end)))
       → Emits c6 c7 (Marking turn) → Emits c7 c8 (Doing (λ w. Llw place)) → Emits c8 c9 (DoingAll (test_code k (base_of k))) → Emits c9 c10 (Doing (λ w. store_code at)) → Adds (body_strings body) c10 c11 (Body inner exit body)
-      → Emits c11 c12 (Doing (λ w. Frn place (w turn))) → Ends c12 c13 end → Adds (body_strings body) c0 c13 (Stated n exit (For v k from to step body))
+      → Emits c11 c12 (Doing (λ w. Frn place (w turn))) → Ends c12 c13 end → Adds (expression_strings from ++ expression_strings to ++ body_strings body) c0 c13 (Stated n exit (For v k from to step body))
   for_emitted word place sign inner end turn at c0 c1 c2 c3 c4 c5 c6 c7 c8 c9 c10 c11 c12 c13 stepped placed signed lies deeper first last new makes align load enter mark value test store here next put =
-      adds_as c0 c13 _ (append-nil (body_strings body))
+      adds_as c0 c13 _ (sym (append_assoc (expression_strings from) (expression_strings to) (body_strings body)))
       (emits_as c0 c13 _ (Stated n exit (For v k from to step body))
       (λ x t many taken sound room.
       let written = framed (loop_place many) in
@@ -175,13 +172,13 @@ module _ (n : ℕ) (exit : Option ℕ) (v : Named) (k : Kind) (from to : Express
       (emits_then c7 c8 c12 _ _ value
       (emits_then c8 c9 c12 _ _ test
       (emits_then c9 c10 c12 _ _ (store_emitted v at c9 c10 lies store)
-      (emits_then c10 c11 c12 _ _ here next)))))))))))
+      (emits_end c10 c11 c12 _ _ here next)))))))))))
       (λ k h. makes.apart k (last.keeps k (first.keeps k h))) put))
 
 -- ---- WITH
 pub with_emitted : (n word inner m : ℕ) (exit : Option ℕ) (d : Designator) (body : Statements) (c0 c1 c2 c3 c4 c5 : Draft) → word ≡ framed (loop_place n) → inner ≡ min (n + 1) 65535
-    → Emits c0 c1 (Addressed d m) → Emits c1 c2 (Doing (λ w. Slw word)) → c3 ≡ inside (record { word = word; shape = m }) c2 → Adds (body_strings body) c3 c4 (Body inner exit body) → c5 ≡ outside c4
-    → Adds (body_strings body) c0 c5 (Stated n exit (Inside d body))
+    → Adds (place_strings d) c0 c1 (Addressed d m) → Emits c1 c2 (Doing (λ w. Slw word)) → c3 ≡ inside (record { word = word; shape = m }) c2 → Adds (body_strings body) c3 c4 (Body inner exit body) → c5 ≡ outside c4
+    → Adds (place_strings d ++ body_strings body) c0 c5 (Stated n exit (Inside d body))
 with_emitted n word inner m exit d body c0 c1 c2 c3 c4 c5 placed deeper address keep enter here leave =
     emits_as c0 c5 _ (Stated n exit (Inside d body))
     (λ x t many taken sound room.
@@ -315,13 +312,13 @@ table_long x k (a ∷ arms) (l ∷ ls) other looping t u base sound long table =
 
 -- the value, a jump to the table, the exit, the arms, what stands behind ELSE, and the table
 pub case_emitted : (n : ℕ) (exit : Option ℕ) (value : RExpr) (arms : List RArm) (otherwise : Option (List RStmt)) (labels : List ℕ) (table end leave other : ℕ) (d0 d1 d2 d3 d4 d5 d6 d7 d8 d9 d10 d11 : Draft)
-    → Emits d0 d1 Nothing → Makes d0 d1 table → Emits d1 d2 Nothing → Makes d1 d2 end → Emits d2 d3 (Value (expression_of value)) → Emits d3 d4 (Doing (λ w. Jmp (w table))) → Emits d4 d5 (Marking leave)
+    → Emits d0 d1 Nothing → Makes d0 d1 table → Emits d1 d2 Nothing → Makes d1 d2 end → Adds (expression_strings (expression_of value)) d2 d3 (Value (expression_of value)) → Emits d3 d4 (Doing (λ w. Jmp (w table))) → Emits d4 d5 (Marking leave)
     → Emits d5 d6 (Doing (λ w. Jmp (w end))) → length labels ≡ length arms → Adds (flat_map arm_part arms) d6 d7 (Each (ArmBody n exit leave) (paired arms labels)) → Adds (arms_strings (else_of otherwise)) d7 d8 (ElsePart n exit leave other otherwise)
     → Ends d8 d9 table → Emits d9 d10 (ChoiceOf arms labels other) → Ends d10 d11 end → Adds (body_strings (statement_of (s.Case value arms otherwise))) d0 d11 (Body n exit (statement_of (s.Case value arms otherwise)))
 case_emitted n exit value arms otherwise labels table end leave other d0 d1 d2 d3 d4 d5 d6 d7 d8 d9 d10 d11 n1 m1 n2 m2 test go exit_at out long bodies els put_table choice put_end =
-    let bodies_strings = flat_map arm_part arms ++ arms_strings (else_of otherwise) in
+    let first = expression_strings (expression_of value) in
     one_emitted n exit _ _ d0 d11 (case_is value arms otherwise)
-    (adds_as d0 d11 _ (append-nil bodies_strings ∙ case_strings arms otherwise)
+    (adds_as d0 d11 _ (append-nil (first ++ (flat_map arm_part arms ++ arms_strings (else_of otherwise))) ∙ ap (λ (ws : List ℕ). first ++ ws) (case_strings arms otherwise))
     (emits_as d0 d11 _ _
     (λ x t many taken sound room.
     let k = kind_of (expression_of value) in

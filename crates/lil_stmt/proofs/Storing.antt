@@ -1,15 +1,14 @@
--- The code of values with their tests, of arguments, of requests and of calls.
-use Rattle.std.proofs.Common.{◌≡◌, ℕ, ◌+◌, ◌≤◌, Bool, ◌||◌, List, [], ◌∷◌, length, Option, None, ◌⊎◌, inl, inr, refl, sym, ap, ◌∙◌, subst, arith, append-nil}
+-- The code of values with their tests, of requests and of calls.
+use Rattle.std.proofs.Common.{◌≡◌, ℕ, ◌+◌, ◌≤◌, Bool, ◌||◌, List, [], ◌∷◌, length, Option, None, refl, ap, ◌∙◌, subst, arith, append-nil}
 use Rattle.std.specs.List.{flat_map}
-use Rattle.lil_resolved.specs.declared.resolved.RArgument.TheVariants as r
-use Rattle.lil_resolved.specs.{declared.resolved.{RArgument.RArgument, RExpr.RExpr, RKind.RKind, RPlace.RPlace}, Kinds.{Kind, same_pointer, all_words, Scope}, Resolved.{Expression, Argument, ByValue, OfPlace, OfAll, OfArray, OfText, Arguments, NoMore, Also, Request, Call, kind_of}, Views.{argument_of, arguments_of, by_value_is, of_place_is, of_all_is}, Sound.{IsSoundWhole, IsSoundValue, IsSoundStored, AreSoundArguments, AreServed, IsSingle, parameters_given, request_parameters}, Sizes.{argument_words, argument_strings, arguments_strings}}
+use Rattle.lil_resolved.specs.{declared.resolved.{RArgument.RArgument}, Kinds.{Kind, same_pointer, all_words, Scope}, Resolved.{Expression, ByValue, OfPlace, OfAll, OfArray, OfText, OfOpened, Arguments, NoMore, Also, Request, Answer, Call, kind_of}, Views.{argument_of, arguments_of}, Sound.{IsSoundWhole, IsSoundValue, IsSoundStored, AreSoundArguments, AreServed, parameters_given, request_parameters}, Sizes.{argument_words, arguments_strings}}
 use Rattle.lil_base.specs.Requests.{request_number}
 use Rattle.lil_base.specs.declared.request.Request as request
-use Rattle.lil_asm.specs.{declared.instr.Instr.TheVariants.{Svc}, Requests.request_words}
+use Rattle.lil_asm.specs.{declared.instr.Instr.TheVariants.{Svc, Rtn}, Requests.request_words}
 use Rattle.lil_table.specs.Rows.{WholeRow, ArgumentsAt, arguments_words}
 use Rattle.lil_labels.specs.{Drafts.{Draft, Final, Adds, Emits, Doing, Each}, Emitting.{emits_then, emits_as, adds_as}}
-use Rattle.lil_expr.specs.{Generating.Value, Calling.{Argued, Single, Called}}
-use Rattle.lil_stmt.specs.Generating.{Stated, ArgumentPart, argument_part}
+use Rattle.lil_expr.specs.{Strings.emits_end, Generating.{Value, Stored, argument_part}, Calling.{Called}}
+use Rattle.lil_stmt.specs.Generating.{Stated, ArgumentPart}
 use Rattle.lil_stmt.proofs.Strings.{arguments_parts}
 
 -- a value that stands alone
@@ -20,22 +19,11 @@ whole x n e k p q low sound t = record { typed = sound.kind; shallow = omega (ar
 pub stored : (ts : Scope) (e : Expression) (k : Kind) → IsSoundValue ts e k → IsSoundStored ts e k
 stored ts e k sound = record { stores = ap (λ (b : Bool). b || same_pointer k (kind_of e)) sound.takes; whole = sound.whole }
 
--- ---- arguments
-no_strings : (a : Argument) → IsSingle a → [] ≡ argument_strings a
-no_strings (ByValue k e) single = refl
-no_strings (OfPlace d) single = refl
-no_strings (OfAll d) single = refl
-no_strings (OfArray d high) single = absurd single
-no_strings (OfText cs) single = absurd single
-
-pub single_argued : (g : RArgument) (a b : Draft) → ((k : RKind) × (e : RExpr) × g ≡ r.Value k e) ⊎ ((p : RPlace) × g ≡ r.Place p) ⊎ ((p : RPlace) × g ≡ r.All p) → Emits a b (Single (argument_of g))
-    → Adds (argument_strings (argument_of g)) a b (Argued (argument_of g))
-single_argued g a b form argued = adds_as a b _ (no_strings (argument_of g) (single form)) (emits_as a b _ (Argued (argument_of g)) (λ x t. t (single form)) argued)
-  where
-    single : ((k : RKind) × (e : RExpr) × g ≡ r.Value k e) ⊎ ((p : RPlace) × g ≡ r.Place p) ⊎ ((p : RPlace) × g ≡ r.All p) → IsSingle (argument_of g)
-    single (inl v) = subst IsSingle (sym (ap argument_of v.2 ∙ by_value_is v.0 v.1)) tt
-    single (inr (inl v)) = subst IsSingle (sym (ap argument_of v.1 ∙ of_place_is v.0)) tt
-    single (inr (inr v)) = subst IsSingle (sym (ap argument_of v.1 ∙ of_all_is v.0)) tt
+pub answer_emitted : {us : List ℕ} (k : Kind) (e : Expression) (n : ℕ) (exit : Option ℕ) (a b c : Draft) → Adds us a b (Stored e k) → Emits b c (Doing (λ w. Rtn)) → Adds us a c (Stated n exit (Answer k e))
+answer_emitted k e n exit a b c value leave =
+    emits_as a c _ (Stated n exit (Answer k e))
+    (λ x t many taken sound room. record { middle = length b.bytes; result = sound.0; value = t.0 0 sound.1 (omega arith); leave = t.1 })
+    (emits_end a b c _ _ value leave)
 
 -- ---- requests
 arguments_at : (n : ℕ) (given : List RArgument) (x : Final) (p q : ℕ) → Each ArgumentPart given x p q → AreSoundArguments x.layout.scope (arguments_of given) → n + arguments_words (arguments_of given) ≤ 4 → ArgumentsAt x.layout x.code n (arguments_of given) p q
@@ -49,8 +37,9 @@ parameters_long ts NoMore h = refl
 parameters_long ts (Also (ByValue k e) given) h = omega (arith, parameters_long ts given h.1)
 parameters_long ts (Also (OfPlace d) given) h = absurd h.0
 parameters_long ts (Also (OfAll d) given) h = absurd h.0
-parameters_long ts (Also (OfArray d high) given) h = omega (arith, parameters_long ts given h.1)
+parameters_long ts (Also (OfArray copied d high) given) h = omega (arith, parameters_long ts given h.1)
 parameters_long ts (Also (OfText cs) given) h = omega (arith, parameters_long ts given h.1)
+parameters_long ts (Also (OfOpened copied n i) given) h = omega (arith, parameters_long ts given h.1)
 
 -- a request takes as many words as its parameters are
 request_long : (r : request.Request) → (request_words r ≡ all_words (request_parameters r)) × (request_words r ≤ 4)
@@ -74,5 +63,5 @@ request_emitted r number given n exit a b c is arguments by =
     (emits_then a b c _ _ arguments called))
 
 -- ---- calls
-pub call_stated : (p levels n : ℕ) (given : Arguments) (exit : Option ℕ) (a b : Draft) → Emits a b (Called p levels given) → Emits a b (Stated n exit (Call p levels given))
-call_stated p levels n given exit a b = emits_as a b _ (Stated n exit (Call p levels given)) (λ x t many taken sound room. t None sound.0 sound.1 sound.2.takes sound.2.sound sound.3)
+pub call_stated : {us : List ℕ} (p levels n : ℕ) (given : Arguments) (exit : Option ℕ) (a b : Draft) → Adds us a b (Called p levels given) → Adds us a b (Stated n exit (Call p levels given))
+call_stated p levels n given exit a b = emits_as a b _ (Stated n exit (Call p levels given)) (λ x t many taken sound room. t None sound.0 sound.1 sound.2.takes sound.2.sound)

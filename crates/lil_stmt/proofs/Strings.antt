@@ -1,20 +1,9 @@
 -- The words of the strings of statements, guards, arms and arguments, one by one.
-use Rattle.std.proofs.Common.{◌≡◌, ℕ, ◌+◌, ◌<◌, List, [], ◌∷◌, ◌++◌, length, take, get_or, Option, refl, sym, ap, ◌∙◌, append-nil, append_assoc}
+use Rattle.std.proofs.Common.{◌≡◌, ℕ, List, [], ◌∷◌, ◌++◌, Option, refl, sym, ap, ◌∙◌, append-nil, append_assoc}
 use Rattle.std.specs.List.{flat_map}
-use Rattle.std.proofs.lemmas.Grind.{flat_map-append}
 use Rattle.lil_resolved.specs.{declared.resolved.{RArgument.RArgument, RStmt.RStmt, RGuard.RGuard, RArm.RArm}, Resolved.{Statements, Empty, Then}, Views.{joined, arguments_of, statement_of, statements_of, guards_of, else_of, arms_of, guard_is, arm_is}, Sizes.{arguments_strings, statement_strings, body_strings, arms_strings}}
-use Rattle.lil_labels.specs.{Drafts.{Draft, Meaning, Each, Adds}, Emitting.{take_next, adds_as, each_next}}
-use Rattle.lil_stmt.specs.Generating.{statement_part, guard_part, arm_part, argument_part}
-
--- those of the items so far, and of the next one
-pub parts_next : {X : Type 0} (f : X → List ℕ) (xs : List X) (i : ℕ) (x : X) → i < length xs → x ≡ get_or xs i x → flat_map f (take i xs) ++ f x ≡ flat_map f (take (i + 1) xs)
-parts_next f xs i x inside is =
-    let so_far = flat_map f (take i xs) in
-    sym (ap (flat_map f) (take_next xs i x inside is) ∙ flat_map-append f (take i xs) (x ∷ []) ∙ ap (λ (ws : List ℕ). so_far ++ ws) (append-nil (f x)))
-
-pub next_part : {X : Type 0} (P : X → Meaning) (f : X → List ℕ) (xs : List X) (i : ℕ) (y : X) (a b c : Draft) → i < length xs → y ≡ get_or xs i y → Adds (flat_map f (take i xs)) a b (Each P (take i xs)) → Adds (f y) b c (P y)
-    → Adds (flat_map f (take (i + 1) xs)) a c (Each P (take (i + 1) xs))
-next_part P f xs i y a b c inside is so_far next = adds_as a c _ (parts_next f xs i y inside is) (each_next P xs i y a b c inside is so_far next)
+use Rattle.lil_expr.specs.Generating.{argument_part}
+use Rattle.lil_stmt.specs.Generating.{statement_part, guard_part, arm_part}
 
 -- ---- all of a list
 joined_strings : (a b : Statements) → body_strings (joined a b) ≡ body_strings a ++ body_strings b

@@ -1,12 +1,12 @@
--- The code of strings, and of arguments.
-use Rattle.std.proofs.Common.{◌≡◌, ℕ, ◌-◌, ◌%◌, min, List, [], ◌∷◌, length, map, Option, Some, None, refl, sym, ap, ◌∙◌, subst, arith, append-nil}
+-- The code of strings that go to arrays.
+use Rattle.std.proofs.Common.{◌≡◌, ℕ, ◌-◌, ◌%◌, min, List, [], ◌∷◌, ◌++◌, length, map, Option, Some, None, refl, sym, ap, ◌∙◌, subst, arith}
 use Rattle.std.specs.Prelude.{slice_get}
-use Rattle.lil_resolved.specs.{declared.shapes.RShape.RShape, Kinds.{OfCharacter, Shape, Absent, Word, Row, words, is_there, shape_at, fields_of, count_of}, Resolved.{Designator, OfText, Text}, Views.{number_of, shape_with, shapes_of, AreMeasured}, Sizes.words_of}
+use Rattle.lil_resolved.specs.{declared.shapes.RShape.RShape, Kinds.{OfCharacter, Shape, Absent, Word, Row, words, is_there, shape_at, fields_of, count_of}, Resolved.{Designator, Text}, Views.{number_of, shape_with, shapes_of, AreMeasured}, Sizes.words_of}
 use Rattle.lil_resolved.specs.declared.shapes.RShape.TheVariants as r
-use Rattle.lil_asm.specs.declared.instr.Instr.{Instr, TheVariants.{Lag, Liw, Mvz}}
-use Rattle.lil_table.specs.Rows.{IsAt, text_words}
-use Rattle.lil_labels.specs.{Entries.{entry, absent, small_at}, Tables.{Tables, elements_in, elements_by}, Drafts.{Draft, Final, Adds, Emits, Saying, DoingAll}, Emitting.{emits_then, emits_as, adds_as, emits_tied}}
-use Rattle.lil_expr.specs.{Generating.Addressed, Calling.Argued}
+use Rattle.lil_asm.specs.declared.instr.Instr.{Instr, TheVariants.{Lag, Mvz}}
+use Rattle.lil_table.specs.Rows.{IsAt}
+use Rattle.lil_labels.specs.{Entries.{entry, absent, small_at}, Tables.{Tables, elements_in, elements_by}, Drafts.{Draft, Final, Adds, Emits, Saying, DoingAll}, Emitting.{emits_then, emits_as, emits_tied}}
+use Rattle.lil_expr.specs.{Strings.emits_end, Generating.Addressed}
 use Rattle.lil_stmt.specs.Generating.{Stated}
 
 -- ---- arrays of the tables
@@ -55,31 +55,12 @@ text_at d cs m offset characters zeros n exit x p start behind last q end long f
           (subst (λ (i : Instr). IsAt x.code last i end) (ap (λ (n : ℕ). Mvz n zeros) short ∙ ap (Mvz (length cs)) left) move);
     }
 
-pub text_emitted : (d : Designator) (cs : List ℕ) (m offset characters zeros n : ℕ) (exit : Option ℕ) (c0 c1 c2 c3 : Draft) → characters ≡ length cs % 65536 → zeros ≡ min ((elements_by (slice_get c2.tables.shapes m)).count - characters) 65535
-    → Emits c0 c1 (Addressed d m) → Adds (words_of cs) c1 c2 (Saying cs offset) → Emits c2 c3 (DoingAll (Lag offset ∷ Mvz characters zeros ∷ [])) → Adds (words_of cs) c0 c3 (Stated n exit (Text d cs))
+pub text_emitted : {us : List ℕ} (d : Designator) (cs : List ℕ) (m offset characters zeros n : ℕ) (exit : Option ℕ) (c0 c1 c2 c3 : Draft) → characters ≡ length cs % 65536 → zeros ≡ min ((elements_by (slice_get c2.tables.shapes m)).count - characters) 65535
+    → Adds us c0 c1 (Addressed d m) → Adds (words_of cs) c1 c2 (Saying cs offset) → Emits c2 c3 (DoingAll (Lag offset ∷ Mvz characters zeros ∷ [])) → Adds (us ++ words_of cs) c0 c3 (Stated n exit (Text d cs))
 text_emitted d cs m offset characters zeros n exit c0 c1 c2 c3 long filled place text move =
-    adds_as c0 c3 _ (append-nil (words_of cs))
-    (emits_as c0 c3 _ (Stated n exit (Text d cs))
+    emits_as c0 c3 _ (Stated n exit (Text d cs))
     (λ x t.
     let moves = t.1.1.0 in
     let filled_now = filled ∙ ap (λ (ts : Tables). min ((elements_by (slice_get ts.shapes m)).count - characters) 65535) (sym t.1.1.1) in
     text_at d cs m offset characters zeros n exit x _ _ _ moves.0 _ moves.2.0 long filled_now t.0 t.1.0 moves.1 moves.2.1 moves.2.2)
-    (emits_then c0 c1 c3 _ _ place (emits_then c1 c2 c3 _ _ text (emits_tied c2 c3 _ move))))
-
--- ---- arguments
-pub text_argued : (cs : List ℕ) (offset high : ℕ) (a b c : Draft) → high ≡ (length cs - 1) % 65536 → Adds (words_of cs) a b (Saying cs offset) → Emits b c (DoingAll (Lag offset ∷ Liw high ∷ [])) → Adds (words_of cs) a c (Argued (OfText cs))
-text_argued cs offset high a b c is text by =
-    adds_as a c _ (append-nil (words_of cs))
-    (emits_as a c _ (Argued (OfText cs))
-    (λ x t n sound low.
-    let lies = t.0.1 sound in
-    let last_is : high ≡ text_words cs - 1 = omega (arith, is, lies.inside, x.room) in
-    record {
-      offset = offset;
-      start = t.1.0;
-      room = omega (arith, low);
-      text = lies;
-      address = subst (λ (p : ℕ). IsAt x.code p (Lag offset) t.1.0) (sym t.0.0) t.1.1;
-      by = subst (λ (q : ℕ). IsAt x.code t.1.0 (Liw (text_words cs - 1)) q) t.1.2.2 (subst (λ (w : ℕ). IsAt x.code t.1.0 (Liw w) t.1.2.0) last_is t.1.2.1);
-    })
-    (emits_then a b c _ _ text by))
+    (emits_then c0 c1 c3 _ _ place (emits_end c1 c2 c3 _ _ text (emits_tied c2 c3 _ move)))

@@ -1,20 +1,17 @@
 -- What the code means that the generator of statements adds.
-use Rattle.std.specs.Prelude.{◌≡◌, ℕ, ◌+◌, ◌%◌, ◌≤◌, min, pos, negsuc, ◌≤ℤ◌, Bool, List, [], ◌∷◌, length, Option, Some, None}
+use Rattle.std.specs.Prelude.{◌≡◌, ℕ, ◌+◌, ◌%◌, ◌≤◌, min, pos, negsuc, ◌≤ℤ◌, Bool, false, List, [], ◌∷◌, ◌++◌, length, Option, Some, None}
 use Rattle.std.specs.Option.{is_some, option_map}
 use Rattle.lil_base.specs.Words.{word_of}
-use Rattle.lil_resolved.specs.{declared.resolved.{RArgument.RArgument, RStmt.RStmt, RGuard.RGuard, RArm.RArm, RLabel.RLabel}, Kinds.{Kind}, Resolved.{Designator, Label, Statement, Statements}, Views.{argument_of, statement_of, guard_of, statements_of, label_of}, Sizes.{argument_strings, body_strings, statement_words, body_words}}
+use Rattle.lil_resolved.specs.{declared.resolved.{RArgument.RArgument, RStmt.RStmt, RGuard.RGuard, RArm.RArm, RLabel.RLabel}, Kinds.{Kind}, Resolved.{Designator, Label, Statement, Statements}, Views.{argument_of, expression_of, statement_of, guard_of, statements_of, label_of}, Sizes.{expression_strings, statement_strings, body_strings, statement_words, body_words}}
 use Rattle.lil_resolved.specs.Sound.{IsSoundTarget, IsSoundStatement, IsSoundBody}
 use Rattle.lil_asm.specs.declared.instr.Instr.TheVariants.{Jmp, Trp}
 use Rattle.lil_table.specs.Rows.{IsAt, InstrsAt, Access, access_of, ready_code, readied, TargetRow, LeaveRow, AlignAt, StatementAt, BodyAt, loop_place}
 use Rattle.lil_expr.specs.Calling.{Argued}
-use Rattle.lil_labels.specs.Drafts.{Final, Meaning, Each, EntryAt, ChoiceAt}
+use Rattle.lil_labels.specs.Drafts.{Draft, Final, Meaning, Adds, Each, EntryAt, ChoiceAt}
 
--- one of the arguments of a request, and the words of its strings
+-- one of the arguments of a request
 abbrev pub ArgumentPart : RArgument → Meaning
-ArgumentPart g x p q = Argued (argument_of g) x p q
-
-abbrev pub argument_part : RArgument → List ℕ
-argument_part g = argument_strings (argument_of g)
+ArgumentPart g x p q = Argued false (argument_of g) x p q
 
 -- what makes a place ready for a store, and how code then has it
 abbrev pub Readied : Access → Access → Meaning
@@ -34,7 +31,11 @@ abbrev pub Stated : ℕ → Option ℕ → Statement → Meaning
 Stated cut exit s x p q =
     (n : ℕ) → min 65535 n ≡ cut → IsSoundStatement x.layout.scope (is_some exit) s → loop_place n + statement_words s ≤ x.layout.frame → StatementAt x.layout x.code n (option_map x.word exit) s p q
 
--- the same of statements
+-- the code of a statement, and the words of its strings
+abbrev pub Says : Draft → Draft → ℕ → Option ℕ → Statement → Type 0
+Says a b n exit s = Adds (statement_strings s) a b (Stated n exit s)
+
+-- as Stated, of statements
 abbrev pub Body : ℕ → Option ℕ → Statements → Meaning
 Body cut exit ss x p q = (n : ℕ) → min 65535 n ≡ cut → IsSoundBody x.layout.scope (is_some exit) ss → loop_place n + body_words ss ≤ x.layout.frame → BodyAt x.layout x.code n (option_map x.word exit) ss p q
 
@@ -50,7 +51,7 @@ abbrev pub GuardPart : ℕ → Option ℕ → ℕ → RGuard → Meaning
 GuardPart n exit end g x p q = (rest : Statements) (r : ℕ) → x.word end ≡ x.layout.target r → Body n exit rest x q r → Body n exit (guard_of g rest) x p r
 
 abbrev pub guard_part : RGuard → List ℕ
-guard_part g = body_strings (statements_of g.body)
+guard_part g = expression_strings (expression_of g.condition) ++ body_strings (statements_of g.body)
 
 -- in a FOR that ends at a label, what leaves it where its start isn't a number of both types of whole numbers
 abbrev pub Leaving : ℕ → Meaning

@@ -2,19 +2,19 @@
 
 ghost use Rattle.std.specs.{Prelude.{◌≡◌, ℕ, Option, OnOk}, List.flat_map};
 ghost use Rattle.lil_resolved.specs.Resolved as resolved;
-ghost use Rattle.lil_resolved.specs.{Resolved.{Assign, Copy, Change, Member, New, Allocate, Exit, Answer}, Views.{arguments_of, kind_view, place_of, is_down, is_out, is_back, argument_of, expression_of}, Sizes.{words_of, argument_strings, arguments_strings}};
+ghost use Rattle.lil_resolved.specs.{Resolved.{Assign, Copy, Change, Member, New, Allocate, Exit, Answer}, Views.{arguments_of, kind_view, place_of, is_down, is_out, is_back, expression_of}};
 ghost use Rattle.lil_asm.specs.Bytes.{Sayable};
 ghost use Rattle.lil_table.specs.Rows.{member_code, allocate_code};
 ghost use Rattle.lil_labels.specs.Drafts.{DoingAll, Each, Adds, Emits};
-ghost use Rattle.lil_expr.specs.Calling.{Argued};
-ghost use Rattle.lil_stmt.specs.Generating.{Stated, ArgumentPart, argument_part};
+ghost use Rattle.lil_expr.specs.Generating.{argument_part};
+ghost use Rattle.lil_stmt.specs.Generating.{Says, ArgumentPart};
 
 use crate::kinds::{change_instr, counted_base};
 use crate::statements::Around;
 use crate::targets::{emit_again, emit_store, emit_target, emit_under};
 use lil_asm::Instr;
 use lil_base::{Memory, Request, Text};
-use lil_expr::{emit_address_of, emit_expression, emit_single, emit_test, emit_tested};
+use lil_expr::{emit_address_of, emit_argument, emit_expression, emit_test, emit_tested};
 use lil_labels::{Aim, CodeBuffer};
 use lil_resolved::{Allocation, Direction, Membership, RArgument, RBase, RExpr, RKind, RPlace};
 
@@ -25,7 +25,7 @@ pub(crate) fn emit_assign(
     kind: RKind,
     value: &RExpr,
 ) -> Result<(), Memory>
-    ensures { OnOk result ((n : ℕ) (exit : Option ℕ) → Emits code.old code.new (Stated n exit (Assign (place_of place.now) (kind_view kind) (expression_of value.now)))) }
+    ensures { OnOk result ((n : ℕ) (exit : Option ℕ) → Says code.old code.new n exit (Assign (place_of place.now) (kind_view kind) (expression_of value.now))) }
 {
     let target = emit_target(code, place)?;
     emit_tested(code, kind, value)?;
@@ -38,7 +38,7 @@ pub(crate) fn emit_copy(
     place: &RPlace,
     from: &RPlace,
 ) -> Result<(), Memory>
-    ensures { OnOk result ((n : ℕ) (exit : Option ℕ) → Emits code.old code.new (Stated n exit (Copy (place_of place.now) (place_of from.now)))) }
+    ensures { OnOk result ((n : ℕ) (exit : Option ℕ) → Says code.old code.new n exit (Copy (place_of place.now) (place_of from.now))) }
 {
     let shape = emit_address_of(code, place)?;
     emit_address_of(code, from)?;
@@ -54,7 +54,7 @@ pub(crate) fn emit_text(
     place: &RPlace,
     text: &Text,
 ) -> Result<(), Memory>
-    ensures { OnOk result ((n : ℕ) (exit : Option ℕ) → Adds (words_of text.now) code.old code.new (Stated n exit (resolved.Text (place_of place.now) text.now))) }
+    ensures { OnOk result ((n : ℕ) (exit : Option ℕ) → Says code.old code.new n exit (resolved.Text (place_of place.now) text.now)) }
 {
     let shape = emit_address_of(code, place)?;
     let offset = code.string(text.as_slice())?;
@@ -73,7 +73,7 @@ pub(crate) fn emit_change(
     kind: RKind,
     value: &RExpr,
 ) -> Result<(), Memory>
-    ensures { OnOk result ((n : ℕ) (exit : Option ℕ) → Emits code.old code.new (Stated n exit (Change (is_down direction) (place_of place.now) (kind_view kind) (expression_of value.now)))) }
+    ensures { OnOk result ((n : ℕ) (exit : Option ℕ) → Says code.old code.new n exit (Change (is_down direction) (place_of place.now) (kind_view kind) (expression_of value.now))) }
 {
     let computes = change_instr(direction, kind);
     let target = emit_target(code, place)?;
@@ -87,7 +87,6 @@ pub(crate) fn emit_change(
 
 /// Appends the code of INCL or EXCL: the address of the set, the number, its test, and the instruction that puts it in or
 /// takes it out.
-#[tactic(auto, using(crate::proofs::Storing::stored))]
 pub(crate) fn emit_member(
     code: &mut CodeBuffer<'_>,
     membership: Membership,
@@ -95,7 +94,7 @@ pub(crate) fn emit_member(
     kind: RKind,
     number: &RExpr,
 ) -> Result<(), Memory>
-    ensures { OnOk result ((n : ℕ) (exit : Option ℕ) → Emits code.old code.new (Stated n exit (Member (is_out membership) (place_of place.now) (kind_view kind) (expression_of number.now)))) }
+    ensures { OnOk result ((n : ℕ) (exit : Option ℕ) → Says code.old code.new n exit (Member (is_out membership) (place_of place.now) (kind_view kind) (expression_of number.now))) }
 {
     emit_address_of(code, place)?;
     emit_tested(code, kind, number)?;
@@ -116,13 +115,12 @@ fn member_instr(membership: Membership) -> Instr
 
 /// Appends the code of NEW: the address of the pointer, the words of what pointers of its type point to, and the instruction
 /// that takes a block of so many.
-#[tactic(auto, using(lil_expr::specs::Variables::pointed))]
 pub(crate) fn emit_new(
     code: &mut CodeBuffer<'_>,
     place: &RPlace,
     pointer: usize,
 ) -> Result<(), Memory>
-    ensures { OnOk result ((n : ℕ) (exit : Option ℕ) → Emits code.old code.new (Stated n exit (New (place_of place.now) pointer))) }
+    ensures { OnOk result ((n : ℕ) (exit : Option ℕ) → Says code.old code.new n exit (New (place_of place.now) pointer)) }
 {
     emit_address_of(code, place)?;
     let words = code.words(code.target(pointer));
@@ -132,14 +130,13 @@ pub(crate) fn emit_new(
 
 /// Appends the code of ALLOCATE or DEALLOCATE: the place of the address, the number of words, its test, and what gives the
 /// address a workspace of so many, or makes it NIL.
-#[tactic(auto, using(crate::proofs::Storing::stored))]
 pub(crate) fn emit_allocate(
     code: &mut CodeBuffer<'_>,
     allocation: Allocation,
     place: &RPlace,
     words: &RExpr,
 ) -> Result<(), Memory>
-    ensures { OnOk result ((n : ℕ) (exit : Option ℕ) → Emits code.old code.new (Stated n exit (Allocate (is_back allocation) (place_of place.now) (expression_of words.now)))) }
+    ensures { OnOk result ((n : ℕ) (exit : Option ℕ) → Says code.old code.new n exit (Allocate (is_back allocation) (place_of place.now) (expression_of words.now))) }
 {
     let cardinal = RKind {
         base: RBase::Cardinal,
@@ -167,7 +164,7 @@ pub(crate) fn emit_request(
     request: Request,
     given: &[RArgument],
 ) -> Result<(), Memory>
-    ensures { OnOk result ((n : ℕ) (exit : Option ℕ) → Adds (arguments_strings (arguments_of given.now)) code.old code.new (Stated n exit (resolved.Request request (arguments_of given.now)))) }
+    ensures { OnOk result ((n : ℕ) (exit : Option ℕ) → Says code.old code.new n exit (resolved.Request request (arguments_of given.now))) }
 {
     emit_arguments(code, given)?;
     code.put(Instr::Svc(request.number()))
@@ -178,36 +175,14 @@ fn emit_arguments(code: &mut CodeBuffer<'_>, given: &[RArgument]) -> Result<(), 
     ensures { OnOk result (Adds (flat_map argument_part given.now) code.old code.new (Each ArgumentPart given.now)) }
 {
     for argument in given {
-        emit_argument(code, argument)?;
+        emit_argument(code, argument, false)?;
     }
     Ok(())
 }
 
-/// Appends the code of an argument: one word of the expression stack, or two for an open array: the address of an array or of a
-/// string, and the number of its last element.
-fn emit_argument(code: &mut CodeBuffer<'_>, argument: &RArgument) -> Result<(), Memory>
-    ensures { OnOk result (Adds (argument_strings (argument_of argument.now)) code.old code.new (Argued (argument_of argument.now))) }
-{
-    match argument {
-        RArgument::Value(_, _) | RArgument::Place(_) | RArgument::All(_) => emit_single(
-            code, argument,
-        ),
-        RArgument::Array(place, high) => {
-            emit_address_of(code, place)?;
-            code.put(Instr::Liw(*high))
-        }
-        RArgument::Text(text) => {
-            let text = text.get();
-            let offset = code.string(text.as_slice())?;
-            let high = (text.len().saturating_sub(1) % 65_536) as u16;
-            code.put_all(&[Instr::Lag(offset), Instr::Liw(high)])
-        }
-    }
-}
-
 /// Appends the code of an EXIT: a jump behind the LOOP around it.
 pub(crate) fn emit_exit(code: &mut CodeBuffer<'_>, around: Around) -> Result<(), Memory>
-    ensures { OnOk result (Emits code.old code.new (Stated around.words around.exit Exit)) }
+    ensures { OnOk result (Says code.old code.new around.words around.exit Exit) }
 {
     match around.exit {
         None => Ok(()),
@@ -221,7 +196,7 @@ pub(crate) fn emit_answer(
     kind: RKind,
     answer: &RExpr,
 ) -> Result<(), Memory>
-    ensures { OnOk result ((n : ℕ) (exit : Option ℕ) → Emits code.old code.new (Stated n exit (Answer (kind_view kind) (expression_of answer.now)))) }
+    ensures { OnOk result ((n : ℕ) (exit : Option ℕ) → Says code.old code.new n exit (Answer (kind_view kind) (expression_of answer.now))) }
 {
     emit_tested(code, kind, answer)?;
     code.put(Instr::Rtn)

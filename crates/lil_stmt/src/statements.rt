@@ -3,7 +3,7 @@
 ghost use Rattle.std.specs.{Prelude.{◌≡◌, true, length, IfOk, OnOk}, List.flat_map};
 ghost use Rattle.lil_resolved.specs.{Resolved.{While, Repeat, Loop, For, Inside}, Views.{named_view, variable_kind, expression_of, place_of, statement_of, statements_of}, Sizes.body_strings};
 ghost use Rattle.lil_labels.specs.Drafts.{Each, Adds, Emits};
-ghost use Rattle.lil_stmt.specs.{Generating.{Stated, Body, GuardPart, guard_part, ArmPart, ArmBody, arm_part, Trapping, paired}, Forms.is_case};
+ghost use Rattle.lil_stmt.specs.{Generating.{Says, Body, GuardPart, guard_part, ArmPart, ArmBody, arm_part, Trapping, paired}, Forms.is_case};
 
 use crate::cases::emit_choice;
 use crate::kinds::{emit_turn_test, loop_sign};
@@ -197,7 +197,7 @@ fn emit_while(
     condition: &RExpr,
     around: Around,
 ) -> Result<(), Memory>
-    ensures { OnOk result (Adds (body_strings (statements_of body.now)) code.old code.new (Stated around.words around.exit (While (expression_of condition.now) (statements_of body.now)))) }
+    ensures { OnOk result (Says code.old code.new around.words around.exit (While (expression_of condition.now) (statements_of body.now))) }
 {
     let again = code.mark()?;
     emit_expression(code, condition)?;
@@ -217,7 +217,7 @@ fn emit_repeat(
     condition: &RExpr,
     around: Around,
 ) -> Result<(), Memory>
-    ensures { OnOk result (Adds (body_strings (statements_of body.now)) code.old code.new (Stated around.words around.exit (Repeat (statements_of body.now) (expression_of condition.now)))) }
+    ensures { OnOk result (Says code.old code.new around.words around.exit (Repeat (statements_of body.now) (expression_of condition.now))) }
 {
     let again = code.mark()?;
     emit_body(code, body, around)?;
@@ -228,7 +228,7 @@ fn emit_repeat(
 /// Appends the code of a LOOP: the statements, and a jump back. EXITs in it jump behind that.
 #[cycle(emitting)]
 fn emit_loop(code: &mut CodeBuffer<'_>, body: &[RStmt], around: Around) -> Result<(), Memory>
-    ensures { OnOk result (Adds (body_strings (statements_of body.now)) code.old code.new (Stated around.words around.exit (Loop (statements_of body.now)))) }
+    ensures { OnOk result (Says code.old code.new around.words around.exit (Loop (statements_of body.now))) }
 {
     let again = code.mark()?;
     let end = code.fresh()?;
@@ -254,7 +254,7 @@ fn emit_for(
     step: i16,
     around: Around,
 ) -> Result<(), Memory>
-    ensures { OnOk result (Adds (body_strings (statements_of body.now)) code.old code.new (Stated around.words around.exit (For (named_view variable.named) (variable_kind variable) (expression_of from.now) (expression_of to.now) step (statements_of body.now)))) }
+    ensures { OnOk result (Says code.old code.new around.words around.exit (For (named_view variable.named) (variable_kind variable) (expression_of from.now) (expression_of to.now) step (statements_of body.now))) }
 {
     emit_expression(code, from)?;
     emit_expression(code, to)?;
@@ -286,7 +286,7 @@ fn emit_with(
     place: &RPlace,
     around: Around,
 ) -> Result<(), Memory>
-    ensures { OnOk result (Adds (body_strings (statements_of body.now)) code.old code.new (Stated around.words around.exit (Inside (place_of place.now) (statements_of body.now)))) }
+    ensures { OnOk result (Says code.old code.new around.words around.exit (Inside (place_of place.now) (statements_of body.now))) }
 {
     let shape = emit_address_of(code, place)?;
     let word = loop_place(around.words);

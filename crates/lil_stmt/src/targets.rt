@@ -1,9 +1,9 @@
 //! The places to which statements store, and those that they copy.
 
 ghost use Rattle.std.specs.Prelude.{◌≡◌, IfOk, OnOk};
-ghost use Rattle.lil_resolved.specs.Views.{place_of};
+ghost use Rattle.lil_resolved.specs.{Sizes.place_strings, Views.place_of};
 ghost use Rattle.lil_table.specs.Rows.{store_code, again_code, under_code};
-ghost use Rattle.lil_labels.specs.Drafts.{Doing, DoingAll, Emits};
+ghost use Rattle.lil_labels.specs.Drafts.{Doing, DoingAll, Adds, Emits};
 ghost use Rattle.lil_expr.specs.Accesses.{access_view};
 ghost use Rattle.lil_stmt.specs.Generating.{Readied, Targeted};
 
@@ -15,7 +15,7 @@ use lil_resolved::RPlace;
 
 /// Appends the code of a place that is made ready for a store, and says how code then has it.
 pub(crate) fn emit_target(code: &mut CodeBuffer<'_>, of: &RPlace) -> Result<Access, Memory>
-    ensures { IfOk result (λ target. Emits code.old code.new (Targeted (place_of of.now) (access_view target))) }
+    ensures { IfOk result (λ target. Adds (place_strings (place_of of.now)) code.old code.new (Targeted (place_of of.now) (access_view target))) }
 {
     let at = emit_place(code, of)?;
     emit_ready(code, at.access)

@@ -1,13 +1,13 @@
 -- How many bytes a translation has, however places in jumps, words of frames and numbers of entries are written.
-use Rattle.std.proofs.Common.{◌≡◌, ℕ, zero, suc, ◌+◌, ◌*◌, ◌≤◌, Bool, true, false, cond, if◌then◌else◌, List, [], ◌∷◌, ◌++◌, Option, Some, None, length, refl, ap, ◌∙◌, arith}
+use Rattle.std.proofs.Common.{◌≡◌, ℕ, zero, suc, ◌+◌, ◌-◌, ◌*◌, ◌≤◌, Bool, true, false, cond, if◌then◌else◌, List, [], ◌∷◌, ◌++◌, Option, Some, None, length, take, refl, ap, ◌∙◌, arith}
 use Rattle.lil_base.specs.{Words.{Whole, Cardinal, Integer, word_of}, declared.operator.{OneOp.OneOp, TwoOp.{TwoOp, TheVariants.{Equal, Unequal, Less, AtMost, Greater, AtLeast, In, Plus, Minus, Times, Slash, Or, And}}}, Requests.request_number}
 use Rattle.lil_base.specs.declared.operator.OneOp.TheVariants as one
-use Rattle.lil_resolved.specs.Kinds.{Kind, OfWhole, OfCharacter, OfSet, OfPointer, base_of, compared_as, covers, shared, outside_turns, Shape, words, all_words, shape_at}
-use Rattle.lil_resolved.specs.Resolved.{Named, OfModule, OfLevel, Designator, Variable, Handed, Held, Field, Element, Follow, Function, Abs, Cap, Chr, Odd, Ord, Val, Expression, Constant, Taken, One, Two, Short, Apply, With, WithSpan, Invoke, Argument, ByValue, OfPlace, OfAll, OfArray, OfText, Arguments, NoMore, Also, Label, Statement, Assign, Copy, Text, Change, Member, New, Allocate, Request, If, Case, While, Repeat, Loop, Exit, Halt, Return, Answer, Call, For, Inside, Statements, Empty, Then, Arms, NoElse, Else, Arm, Procedure, Resolved, kind_of, counted_as, shape_of}
-use Rattle.lil_resolved.specs.Sizes.{statement_words, body_words, arms_words, frame_words, argument_words, argument_size, pushed_size, handed_size, one_size, two_size, test_size, function_size, Form, Direct, Outward, variable_form, Exact, Beyond, field_form, form_of, address_size, load_size, ready_size, store_size, again_size, under_size, place_size, target_size, size, arguments_size, allocate_size, statement_size, body_size, arms_size, leave_size, framed_size, procedures_size, code_size}
+use Rattle.lil_resolved.specs.Kinds.{Kind, OfWhole, OfCharacter, OfSet, OfPointer, base_of, compared_as, covers, shared, outside_turns, Shape, Absent, Word, Blank, Join, Row, Address, Opened, words, all_words, shape_at}
+use Rattle.lil_resolved.specs.Resolved.{Named, OfModule, OfLevel, Designator, Variable, Handed, Along, Held, Field, Element, Follow, Function, Abs, Cap, Chr, Odd, Ord, Val, Expression, Constant, Taken, One, Two, Short, Apply, With, WithSpan, Invoke, High, Argument, ByValue, OfPlace, OfAll, OfArray, OfText, OfOpened, Arguments, NoMore, Also, Label, Statement, Assign, Copy, Text, Change, Member, New, Allocate, Request, If, Case, While, Repeat, Loop, Exit, Halt, Return, Answer, Call, For, Inside, Statements, Empty, Then, Arms, NoElse, Else, Arm, Procedure, Resolved, kind_of, counted_as, shape_of}
+use Rattle.lil_resolved.specs.Sizes.{statement_words, body_words, arms_words, frame_words, argument_words, argument_size, pushed_size, handed_size, one_size, two_size, test_size, function_size, Form, Direct, Outward, variable_form, Exact, Beyond, field_form, form_of, address_size, load_size, ready_size, store_size, again_size, under_size, place_size, target_size, size, arguments_size, allocate_size, statement_size, body_size, arms_size, leave_size, copy_size, copies_size, framed_size, procedures_size, code_size}
 use Rattle.lil_resolved.specs.Sound.{takes_two}
-use Rattle.lil_asm.specs.{declared.instr.Instr.{Instr, TheVariants.{Liw, Lag, Dup, Drp, Nlt, Llw, Slw, Swp, Rgc, Lsi, Spn, Sav, Rst, Mrk, Psh, Psm, Cll, Ent, Rtn, Jmp, Jpf, Cas, Fri, Frn, Trp, Alc, Svc}}, Bytes.bytes_of, Decoding.decoded_stands, Stretches.stretch}
-use Rattle.lil_table.specs.Rows.{Layout, given_words, framed, in_procedure, holding, ArgumentAt, GivenAt, IsAt, InstrsAt, one_code, whole_code, two_code, range_code, test_code, function_code, Access, InData, InFrame, access_at, OnTop, Behind, further, access_of, address_code, load_code, ready_code, readied, held, store_code, again_code, under_code, change_operator, change_code, member_code, allocate_code, short_code, loop_place, loop_sign, ValueRow, TargetRow, EntriesAt, AlignAt, PlaceAt, ExpressionAt, ArgumentsAt, StatementAt, BodyAt, ArmsAt, leave_code, FramedRow, ProceduresAt, TranslatesBy}
+use Rattle.lil_asm.specs.{declared.instr.Instr.{Instr, TheVariants.{Liw, Lag, Dup, Drp, Nlt, Llw, Slw, Swp, Rgc, Lsi, Spn, Sav, Rst, Mrk, Psh, Psm, Cll, Ent, Ixo, Rtn, Jmp, Jpf, Cas, Fri, Frn, Trp, Alc, Svc}}, Bytes.bytes_of, Decoding.decoded_stands, Stretches.stretch}
+use Rattle.lil_table.specs.Rows.{Layout, given_words, framed, in_procedure, holding, ArgumentAt, GivenAt, IsAt, InstrsAt, one_code, whole_code, two_code, range_code, test_code, function_code, Access, InData, InFrame, access_at, OnTop, Behind, further, access_of, address_code, load_code, ready_code, readied, held, store_code, again_code, under_code, change_operator, change_code, member_code, allocate_code, short_code, loop_place, loop_sign, ValueRow, TargetRow, EntriesAt, AlignAt, PlaceAt, ExpressionAt, ArgumentsAt, StatementAt, BodyAt, ArmsAt, leave_code, frame_code, second_code, text_words, copy_code, copies_code, FramedRow, ProceduresAt, TranslatesBy}
 
 -- the bytes of an instruction, and of several
 abbrev pub instr_size : Instr → ℕ
@@ -104,6 +104,7 @@ formed l (Variable (OfModule x)) = refl
 formed l (Variable (OfLevel zero x)) = refl
 formed l (Variable (OfLevel (suc n) x)) = refl
 formed l (Handed n x) = refl
+formed l (Along n x e) = refl
 formed l (Held w) = refl
 formed l (Field d i) = further_formed _ (access_of l d) ∙ ap field_form (formed l d)
 formed l (Element d k e) = refl
@@ -147,6 +148,37 @@ stored_sized (OfLevel (suc n) x) o = refl
 handed_sized : (n x o : ℕ) → instr_size (load_code (access_at (OfLevel n x) o)) ≡ handed_size n
 handed_sized zero x o = refl
 handed_sized (suc n) x o = refl
+
+-- the load of a word of an open array
+frame_sized : (n o : ℕ) → instr_size (frame_code n o) ≡ handed_size n
+frame_sized zero o = refl
+frame_sized (suc n) o = refl
+
+-- the second word of an open array, and the instruction that pushes the first one
+abbrev pushes_size : Bool → ℕ
+pushes_size false = 0
+pushes_size true = 1
+
+-- those that push the first word of an argument of two
+abbrev plain_pushes : Bool → Argument → ℕ
+plain_pushes calls (ByValue k e) = 0
+plain_pushes calls (OfPlace d) = 0
+plain_pushes calls (OfAll d) = 0
+plain_pushes calls (OfArray copied d high) = pushes_size calls
+plain_pushes calls (OfText cs) = pushes_size calls
+plain_pushes calls (OfOpened copied n x) = pushes_size calls
+
+no_pushes : (a : Argument) → plain_pushes false a ≡ 0
+no_pushes (ByValue k e) = refl
+no_pushes (OfPlace d) = refl
+no_pushes (OfAll d) = refl
+no_pushes (OfArray copied d high) = refl
+no_pushes (OfText cs) = refl
+no_pushes (OfOpened copied n x) = refl
+
+second_sized : (calls : Bool) (i : Instr) → instrs_size (second_code calls i) ≡ pushes_size calls + instr_size i
+second_sized false i = omega arith
+second_sized true i = omega arith
 
 again_sized : (a : Access) → instrs_size (again_code (readied a)) ≡ again_size (access_form a)
 again_sized (InData o) = refl
@@ -196,6 +228,16 @@ mutual
   pub place_long : (l : Layout) (code : List ℕ) (d : Designator) (p q : ℕ) → PlaceAt l code d p q → q ≡ p + place_size d
   place_long l code (Variable v) p q h = omega (arith, h.stays)
   place_long l code (Handed n x) p q h = omega (arith, instr_long code p (load_code (access_at (OfLevel n x) h.offset)) q h.load, handed_sized n x h.offset)
+  place_long l code (Along n x e) p q h =
+      omega (
+        arith,
+        instrs_long code (frame_code n h.opened.offset ∷ frame_code n (h.opened.offset + 1) ∷ []) p h.start h.load,
+        frame_sized n h.opened.offset,
+        frame_sized n (h.opened.offset + 1),
+        expression_long l code e h.start h.middle h.value,
+        test_long code (OfWhole Cardinal) (kind_of e) h.middle h.tested h.test,
+        instr_long code h.tested (Ixo (words h.opened.element)) q h.by,
+      )
   place_long l code (Held w) p q h = instr_long code p _ q h.load
   place_long l code (Field d i) p q h = place_long l code d p q h.here
   place_long l code (Element d k e) p q h =
@@ -252,23 +294,35 @@ mutual
         instr_long code h.call.middle (Cll x (framed (given_words l.scope given))) h.end h.call.call,
         instr_long code h.end (Rst 1) q h.restore,
       )
+  expression_long l code (High n x) p q h = omega (arith, instr_long code p (frame_code n (h.opened.offset + 1)) q h.load, frame_sized n (h.opened.offset + 1))
 
-  argument_long : (l : Layout) (code : List ℕ) (n : ℕ) (a : Argument) (p q : ℕ) → ArgumentAt l code n a p q → q ≡ p + argument_size a
-  argument_long l code n (ByValue k e) p q h = omega (arith, expression_long l code e p h.middle h.value.value, test_long code k (kind_of e) h.middle q h.test)
-  argument_long l code n (OfPlace d) p q h = omega (arith, place_long l code d p h.found h.here, instrs_long code (address_code (access_of l d)) h.found q h.address, address_sized (access_of l d), ap address_size (formed l d))
-  argument_long l code n (OfAll d) p q h = omega (arith, place_long l code d p h.found h.here, instrs_long code (address_code (access_of l d)) h.found q h.address, address_sized (access_of l d), ap address_size (formed l d))
-  argument_long l code n (OfArray d high) p q h =
-      omega (arith, place_long l code d p h.found h.here, instrs_long code (address_code (access_of l d)) h.found h.start h.address, address_sized (access_of l d), ap address_size (formed l d), instr_long code h.start (Liw high) q h.by)
-  argument_long l code n (OfText cs) p q h = omega (arith, instr_long code p (Lag h.offset) h.start h.address, instr_long code h.start _ q h.by)
+  argument_long : (l : Layout) (code : List ℕ) (calls : Bool) (n : ℕ) (a : Argument) (p q : ℕ) → ArgumentAt l code calls n a p q → q ≡ p + (plain_pushes calls a + argument_size a)
+  argument_long l code calls n (ByValue k e) p q h = omega (arith, expression_long l code e p h.middle h.value.value, test_long code k (kind_of e) h.middle q h.test)
+  argument_long l code calls n (OfPlace d) p q h = omega (arith, place_long l code d p h.found h.here, instrs_long code (address_code (access_of l d)) h.found q h.address, address_sized (access_of l d), ap address_size (formed l d))
+  argument_long l code calls n (OfAll d) p q h = omega (arith, place_long l code d p h.found h.here, instrs_long code (address_code (access_of l d)) h.found q h.address, address_sized (access_of l d), ap address_size (formed l d))
+  argument_long l code calls n (OfArray copied d high) p q h =
+      omega (arith, place_long l code d p h.found h.here, instrs_long code (address_code (access_of l d)) h.found h.start h.address, address_sized (access_of l d), ap address_size (formed l d), instrs_long code (second_code calls (Liw high)) h.start q h.by, second_sized calls (Liw high))
+  argument_long l code calls n (OfText cs) p q h =
+      omega (arith, instr_long code p (Lag h.offset) h.start h.address, instrs_long code (second_code calls (Liw (text_words cs - 1))) h.start q h.by, second_sized calls (Liw (text_words cs - 1)))
+  argument_long l code calls n (OfOpened copied i x) p q h =
+      omega (
+        arith,
+        instr_long code p (frame_code i h.opened.offset) h.start h.first,
+        frame_sized i h.opened.offset,
+        frame_sized i (h.opened.offset + 1),
+        instrs_long code (second_code calls (frame_code i (h.opened.offset + 1))) h.start q h.by,
+        second_sized calls (frame_code i (h.opened.offset + 1)),
+      )
 
   -- those of a call, each with the instruction that pushes it
   given_long : (l : Layout) (code : List ℕ) (given : Arguments) (p q : ℕ) → GivenAt l code given p q → q ≡ p + pushed_size given
   given_long l code NoMore p q h = omega (arith, h)
-  given_long l code (Also (ByValue k e) given) p q h = omega (arith, argument_long l code 0 (ByValue k e) p h.1.here.middle h.1.here.here, instr_long code h.1.here.middle Psh h.1.middle h.1.here.push, given_long l code given h.1.middle q h.1.then)
-  given_long l code (Also (OfPlace d) given) p q h = omega (arith, argument_long l code 0 (OfPlace d) p h.1.here.middle h.1.here.here, instr_long code h.1.here.middle Psh h.1.middle h.1.here.push, given_long l code given h.1.middle q h.1.then)
-  given_long l code (Also (OfAll d) given) p q h = omega (arith, argument_long l code 0 (OfAll d) p h.1.here.middle h.1.here.here, instr_long code h.1.here.middle (Psm (words (shape_of l.scope d))) h.1.middle h.1.here.push, given_long l code given h.1.middle q h.1.then)
-  given_long l code (Also (OfArray d high) given) p q h = absurd h.0
-  given_long l code (Also (OfText cs) given) p q h = absurd h.0
+  given_long l code (Also (ByValue k e) given) p q h = omega (arith, argument_long l code true 0 (ByValue k e) p h.here.middle h.here.here, instr_long code h.here.middle Psh h.middle h.here.push, given_long l code given h.middle q h.then)
+  given_long l code (Also (OfPlace d) given) p q h = omega (arith, argument_long l code true 0 (OfPlace d) p h.here.middle h.here.here, instr_long code h.here.middle Psh h.middle h.here.push, given_long l code given h.middle q h.then)
+  given_long l code (Also (OfAll d) given) p q h = omega (arith, argument_long l code true 0 (OfAll d) p h.here.middle h.here.here, instr_long code h.here.middle (Psm (words (shape_of l.scope d))) h.middle h.here.push, given_long l code given h.middle q h.then)
+  given_long l code (Also (OfArray copied d high) given) p q h = omega (arith, argument_long l code true 0 (OfArray copied d high) p h.here.middle h.here.here, instr_long code h.here.middle Psh h.middle h.here.push, given_long l code given h.middle q h.then)
+  given_long l code (Also (OfText cs) given) p q h = omega (arith, argument_long l code true 0 (OfText cs) p h.here.middle h.here.here, instr_long code h.here.middle Psh h.middle h.here.push, given_long l code given h.middle q h.then)
+  given_long l code (Also (OfOpened copied n x) given) p q h = omega (arith, argument_long l code true 0 (OfOpened copied n x) p h.here.middle h.here.here, instr_long code h.here.middle Psh h.middle h.here.push, given_long l code given h.middle q h.then)
 
 -- a place and its address
 addressed_long : (l : Layout) (code : List ℕ) (d : Designator) (p found q : ℕ) → PlaceAt l code d p found → InstrsAt code (address_code (access_of l d)) found q → q ≡ p + (place_size d + address_size (form_of d))
@@ -284,7 +338,7 @@ target_long l code d k p q h =
 
 arguments_long : (l : Layout) (code : List ℕ) (n : ℕ) (given : Arguments) (p q : ℕ) → ArgumentsAt l code n given p q → q ≡ p + arguments_size given
 arguments_long l code n NoMore p q h = omega (arith, h)
-arguments_long l code n (Also a given) p q h = omega (arith, argument_long l code n a p h.middle h.here, arguments_long l code (argument_words a + n) given h.middle q h.then)
+arguments_long l code n (Also a given) p q h = omega (arith, argument_long l code false n a p h.middle h.here, no_pushes a, arguments_long l code (argument_words a + n) given h.middle q h.then)
 
 align_long : (l : Layout) (code : List ℕ) (same turns : Bool) (p start q : ℕ) → AlignAt l code same turns p start q → start ≡ p + (if same then 0 else (if turns then 7 else 15))
 align_long l code true turns p start q h = omega (arith, h)
@@ -411,19 +465,33 @@ leave_sized : (result : Option Kind) → instr_size (leave_code result) ≡ leav
 leave_sized None = refl
 leave_sized (Some k) = refl
 
-pub framed_long : (l : Layout) (code : List ℕ) (result : Option Kind) (locals : List Shape) (ss : Statements) (p q : ℕ) → FramedRow l code result locals ss p q → q ≡ p + framed_size result ss
-framed_long l code result locals ss p q h =
-    omega (arith, instr_long code p (Ent (framed (frame_words locals ss))) h.start h.enter, body_long l code (all_words locals) None ss h.start h.end h.body, instr_long code h.end (leave_code result) q h.leave, leave_sized result)
+copy_sized : (o : ℕ) (t : Shape) → instrs_size (copy_code o t) ≡ copy_size t
+copy_sized o Absent = refl
+copy_sized o (Word k) = refl
+copy_sized o Blank = refl
+copy_sized o (Join a b) = refl
+copy_sized o (Row n t) = refl
+copy_sized o (Address t) = refl
+copy_sized o (Opened false t) = refl
+copy_sized o (Opened true t) = refl
+
+copies_sized : (o : ℕ) (ts : List Shape) → instrs_size (copies_code o ts) ≡ copies_size ts
+copies_sized o [] = refl
+copies_sized o (t ∷ ts) = omega (arith, instrs_both (copy_code o t) (copies_code (o + words t) ts), copy_sized o t, copies_sized (o + words t) ts)
+
+pub framed_long : (l : Layout) (code : List ℕ) (result : Option Kind) (locals parameters : List Shape) (ss : Statements) (p q : ℕ) → FramedRow l code result locals parameters ss p q → q ≡ p + framed_size result parameters ss
+framed_long l code result locals parameters ss p q h =
+    omega (arith, instr_long code p (Ent (framed (frame_words locals ss))) h.begun h.enter, instrs_long code (copies_code 4 parameters) h.begun h.start h.copies, copies_sized 4 parameters, body_long l code (all_words locals) None ss h.start h.end h.body, instr_long code h.end (leave_code result) q h.leave, leave_sized result)
 
 pub procedures_long : (l : Layout) (code : List ℕ) (n : ℕ) (ps : List Procedure) (es : List ℕ) (p q : ℕ) → ProceduresAt l code n ps es p q → q ≡ p + procedures_size ps
 procedures_long l code n [] [] p q h = omega (arith, h)
-procedures_long l code n (its ∷ ps) (e ∷ es) p q h = omega (arith, framed_long (in_procedure l n its) (stretch p h.1.middle code) its.result its.locals its.body p h.1.middle h.1.here, procedures_long l code (suc n) ps es h.1.middle q h.1.then)
+procedures_long l code n (its ∷ ps) (e ∷ es) p q h = omega (arith, framed_long (in_procedure l n its) (stretch p h.1.middle code) its.result its.locals (take its.parameters its.locals) its.body p h.1.middle h.1.here, procedures_long l code (suc n) ps es h.1.middle q h.1.then)
 procedures_long l code n [] (e ∷ es) p q h = absurd h
 procedures_long l code n (its ∷ ps) [] p q h = absurd h
 
 -- any translation of a module has as many bytes as its size says
 pub module_long : (l : Layout) (m : Resolved) (entries code : List ℕ) → TranslatesBy l m entries code → length code ≡ code_size m
-module_long l m entries code h = omega (arith, framed_long l (stretch 0 h.middle code) None [] m.body 0 h.middle h.body, procedures_long l code 1 m.procedures entries h.middle (length code) h.procedures)
+module_long l m entries code h = omega (arith, framed_long l (stretch 0 h.middle code) None [] [] m.body 0 h.middle h.body, procedures_long l code 1 m.procedures entries h.middle (length code) h.procedures)
 
 -- ---- a frame has no more words than its code has bytes
 mutual

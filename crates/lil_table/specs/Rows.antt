@@ -1,14 +1,14 @@
 -- The translation table: which bytes from one place to another are a translation of a part. It has one row for each construct. The place
 -- in a jump and how many entries a table has are written as they are, or in code that is too long for that cut to 16 bits.
-use Rattle.std.specs.Prelude.{◌≡◌, ℕ, zero, suc, ◌+◌, ◌-◌, ◌*◌, ◌%◌, ◌<◌, ◌≤◌, min, max, ℤ, Bool, true, false, List, [], ◌∷◌, ◌++◌, length, map, get_or, Option, Some, None, slice_get, cond}
+use Rattle.std.specs.Prelude.{◌≡◌, ℕ, zero, suc, ◌+◌, ◌-◌, ◌*◌, ◌%◌, ◌<◌, ◌≤◌, min, max, ℤ, Bool, true, false, List, [], ◌∷◌, ◌++◌, length, take, get_or, Option, Some, None, slice_get, cond}
 use Rattle.lil_base.specs.{Words.{Whole, Cardinal, Integer, word_of}, declared.operator.{OneOp.OneOp, TwoOp.{TwoOp, TheVariants.{Equal, Unequal, Less, AtMost, Greater, AtLeast, In, Plus, Minus, Times, Slash, Div, Mod}}}, Requests.request_number}
 use Rattle.lil_base.specs.declared.operator.OneOp.TheVariants as one
 use Rattle.lil_base.specs.declared.request.Request as request
-use Rattle.lil_resolved.specs.Kinds.{Objects, Workspaces, Kind, OfWhole, OfTruth, OfCharacter, OfSet, OfPointer, base_of, is_ordinal, is_set, is_plain, is_element, takes_value, stores_value, compared_as, covers, shared, outside_turns, least, numbers, Scalar, is_literal, scalar_word, Shape, Address, Word, Row, Scope, with_held, MayCall, parameters_of, result_of, result_here, parameters_at, locals_at, words, is_there, part_at, offset, all_words, offsets_from, shape_at, element_of, procedure_by}
-use Rattle.lil_resolved.specs.Resolved.{Named, OfModule, OfLevel, variable_at, Designator, Variable, Handed, Held, Field, Element, Follow, Function, Abs, Cap, Chr, Odd, Ord, Val, Expression, Constant, Taken, One, Two, Short, Apply, With, WithSpan, Invoke, Argument, ByValue, OfPlace, OfAll, OfArray, OfText, Arguments, NoMore, Also, Label, Statement, Assign, Copy, Text, Change, Member, New, Allocate, Request, If, Case, While, Repeat, Loop, Exit, Halt, Return, Answer, Call, For, Inside, Statements, Empty, Then, Arms, NoElse, Else, Arm, Procedure, Resolved, scope_in, kind_of, right_kind, counted_as, shape_of}
-use Rattle.lil_resolved.specs.{Sizes.{place_depth, depth, frame_words, argument_words}, Sound.{AreServed, takes_one, takes_two, takes_function, IsScalar, IsSoundLabel, IsStep, is_text, request_parameters, parameter_of, parameters_given, IsSingle}}
+use Rattle.lil_resolved.specs.Kinds.{Objects, Workspaces, Kind, OfWhole, OfTruth, OfCharacter, OfSet, OfPointer, base_of, is_ordinal, is_set, is_plain, is_element, takes_value, stores_value, compared_as, covers, shared, outside_turns, least, numbers, Scalar, is_literal, scalar_word, Shape, Absent, Word, Blank, Join, Row, Address, Opened, Scope, with_held, MayCall, parameters_of, result_of, result_here, parameters_at, locals_at, words, is_there, part_at, offset, all_words, offsets_from, shape_at, element_of, procedure_by}
+use Rattle.lil_resolved.specs.Resolved.{Named, OfModule, OfLevel, variable_at, Designator, Variable, Handed, Along, Held, Field, Element, Follow, Function, Abs, Cap, Chr, Odd, Ord, Val, Expression, Constant, Taken, One, Two, Short, Apply, With, WithSpan, Invoke, High, Argument, ByValue, OfPlace, OfAll, OfArray, OfText, OfOpened, Arguments, NoMore, Also, Label, Statement, Assign, Copy, Text, Change, Member, New, Allocate, Request, If, Case, While, Repeat, Loop, Exit, Halt, Return, Answer, Call, For, Inside, Statements, Empty, Then, Arms, NoElse, Else, Arm, Procedure, Resolved, scope_in, kind_of, right_kind, counted_as, shape_of}
+use Rattle.lil_resolved.specs.{Sizes.{place_depth, depth, frame_words, argument_words}, Sound.{AreServed, takes_one, takes_two, takes_function, IsScalar, IsSoundLabel, IsStep, is_text, request_parameters, parameters_given}}
 use Rattle.lil_asm.specs.declared.instr.Instr.{Instr}
-use Rattle.lil_asm.specs.declared.instr.Instr.TheVariants.{Liw, Dup, Drp, Llw, Slw, Lgw, Sgw, Lnw, Snw, Lal, Lan, Lag, Ldi, Sti, Ldf, Adf, Mov, Mvz, Nlt, Ixc, Swp, Rgc, Rgi, Cap, Adc, Sbc, Mlc, Dvc, Mdc, Adi, Sbi, Mli, Dvi, Mdi, Ngi, Abi, Uni, Dif, Its, Sym, Sin, Spn, Icl, Ecl, Sle, Not, Equ, Neq, Lsc, Lec, Lsi, Lei, Sav, Rst, Mrk, Psh, Psm, Cll, Ent, Rtn, Jmp, Jpf, Jan, Jor, Cas, Fri, Frn, Trp, Alc, Svc}
+use Rattle.lil_asm.specs.declared.instr.Instr.TheVariants.{Liw, Dup, Drp, Llw, Slw, Lgw, Sgw, Lnw, Snw, Lal, Lan, Lag, Ldi, Sti, Ldf, Adf, Mov, Mvz, Nlt, Ixc, Ixo, Swp, Rgc, Rgi, Cap, Adc, Sbc, Mlc, Dvc, Mdc, Adi, Sbi, Mli, Dvi, Mdi, Ngi, Abi, Uni, Dif, Its, Sym, Sin, Spn, Icl, Ecl, Sle, Not, Equ, Neq, Lsc, Lec, Lsi, Lei, Sav, Rst, Mrk, Psh, Psm, Cll, Ent, Cpy, Rtn, Jmp, Jpf, Jan, Jor, Cas, Fri, Frn, Trp, Alc, Svc}
 use Rattle.lil_asm.specs.{Bytes.{word_at, decoded}, Requests.request_words, Stretches.stretch}
 
 -- Where the variables of a module lie in its data frame, by their numbers; the shapes that names reach, and the words of the frame that
@@ -176,6 +176,7 @@ access_at (OfLevel n x) o = InFrame n (framed o)
 abbrev pub access_of : Layout → Designator → Access
 access_of l (Variable v) = access_at v (offset_in (offset_at l v))
 access_of l (Handed n x) = OnTop
+access_of l (Along n x e) = OnTop
 access_of l (Held w) = OnTop
 access_of l (Field d i) = further (offset (shape_of l.scope d) (i ∷ [])) (access_of l d)
 access_of l (Element d k e) = OnTop
@@ -350,6 +351,36 @@ pub record HandedRow (l : Layout) (code : List ℕ) (n x p q : ℕ) : Type 0 whe
   pub there : is_there shape ≡ true
   pub load : IsAt code p (load_code (access_at (OfLevel n x) offset)) q
 
+-- where an open array that is a parameter lies: two words of its procedure's frame have its address and the number of its last element
+pub record OpenedRow (l : Layout) (n x : ℕ) : Type 0 where
+  pub offset : ℕ
+  pub copied : Bool
+  pub element : Shape
+  pub at : offset_at l (OfLevel n x) ≡ Some offset
+  pub typed : slice_get (parameters_at l.scope n) x ≡ Some (Opened copied element)
+  pub there : is_there element ≡ true
+
+-- the instruction that brings a word of the frame of the procedure so many levels out
+abbrev pub frame_code : ℕ → ℕ → Instr
+frame_code n o = load_code (InFrame n (framed o))
+
+-- both words, an index and its test, and the address of the element
+pub record AlongRow (l : Layout) (code : List ℕ) (n x : ℕ) (e : Expression) (index : Span) (p q : ℕ) : Type 0 where
+  pub opened : OpenedRow l n x
+  pub start : ℕ
+  pub middle : ℕ
+  pub tested : ℕ
+  pub takes : takes_value (OfWhole Cardinal) (kind_of e) ≡ true
+  pub load : InstrsAt code (frame_code n opened.offset ∷ frame_code n (opened.offset + 1) ∷ []) p start
+  pub value : index start middle
+  pub test : InstrsAt code (test_code (OfWhole Cardinal) (kind_of e)) middle tested
+  pub by : IsAt code tested (Ixo (words opened.element)) q
+
+-- HIGH
+pub record HighRow (l : Layout) (code : List ℕ) (n x p q : ℕ) : Type 0 where
+  pub opened : OpenedRow l n x
+  pub load : IsAt code p (frame_code n (opened.offset + 1)) q
+
 -- the record of a WITH: a word of the frame has its address
 pub record HeldRow (l : Layout) (code : List ℕ) (w p q : ℕ) : Type 0 where
   pub word : ℕ
@@ -429,35 +460,54 @@ pub record AddressRow (l : Layout) (code : List ℕ) (n : ℕ) (d : Designator) 
   pub here : place p found
   pub address : InstrsAt code (address_code (access_of l d)) found q
 
--- an array for an open array of characters, with n words of others below: its address, and the number of its last element
-pub record ArrayRow (l : Layout) (code : List ℕ) (n : ℕ) (d : Designator) (high : ℕ) (place : Span) (p q : ℕ) : Type 0 where
+-- the instructions that bring the second word of an open array; before that the first one goes to the frame that a call begins
+abbrev pub second_code : (calls : Bool) → Instr → List Instr
+second_code false i = i ∷ []
+second_code true i = Psh ∷ i ∷ []
+
+-- an array for an open array, with n words of others below: its address, and the number of its last element
+pub record ArrayRow (l : Layout) (code : List ℕ) (calls : Bool) (n : ℕ) (d : Designator) (high : ℕ) (place : Span) (p q : ℕ) : Type 0 where
   pub found : ℕ
   pub start : ℕ
-  pub rows : shape_of l.scope d ≡ Row (suc high) (Word OfCharacter)
+  pub rows : shape_of l.scope d ≡ Row (suc high) (element_of (shape_of l.scope d))
+  pub there : is_there (element_of (shape_of l.scope d)) ≡ true
+  pub low : high ≤ 65535
   pub shallow : n + place_depth d ≤ 16
   pub room : n + 2 ≤ 16
   pub here : place p found
   pub address : InstrsAt code (address_code (access_of l d)) found start
-  pub by : IsAt code start (Liw high) q
+  pub by : InstrsAt code (second_code calls (Liw high)) start q
 
 -- the same of a string
-pub record StringRow (l : Layout) (code : List ℕ) (n : ℕ) (cs : List ℕ) (p q : ℕ) : Type 0 where
+pub record StringRow (l : Layout) (code : List ℕ) (calls : Bool) (n : ℕ) (cs : List ℕ) (p q : ℕ) : Type 0 where
   pub offset : ℕ
   pub start : ℕ
   pub room : n + 2 ≤ 16
   pub text : HasText l cs offset
   pub address : IsAt code p (Lag offset) start
-  pub by : IsAt code start (Liw (text_words cs - 1)) q
+  pub by : InstrsAt code (second_code calls (Liw (text_words cs - 1))) start q
+
+-- and of an open array that is a parameter
+pub record HandedOnRow (l : Layout) (code : List ℕ) (calls : Bool) (k n x p q : ℕ) : Type 0 where
+  pub start : ℕ
+  pub room : k + 2 ≤ 16
+  pub opened : OpenedRow l n x
+  pub first : IsAt code p (frame_code n opened.offset) start
+  pub by : InstrsAt code (second_code calls (frame_code n (opened.offset + 1))) start q
 
 pub record ArgumentRow (argument rest : Span) (p q : ℕ) : Type 0 where
   pub middle : ℕ
   pub here : argument p middle
   pub then : rest middle q
 
--- what brings an argument from the expression stack to the frame that a call begins: its word, or all that lies at its address
+-- what brings an argument from the expression stack to the frame that a call begins: its last word, or all that lies at its address
 abbrev pub push_code : Scope → Argument → Instr
+push_code ts (ByValue k e) = Psh
+push_code ts (OfPlace d) = Psh
 push_code ts (OfAll d) = Psm (words (shape_of ts d))
-push_code ts a = Psh
+push_code ts (OfArray copied d high) = Psh
+push_code ts (OfText cs) = Psh
+push_code ts (OfOpened copied n x) = Psh
 
 pub record PushedRow (l : Layout) (code : List ℕ) (a : Argument) (argument : Span) (p q : ℕ) : Type 0 where
   pub middle : ℕ
@@ -491,6 +541,7 @@ abbrev mutual
   pub PlaceAt : Layout → List ℕ → Designator → Span
   PlaceAt l code (Variable v) p q = NamedRow l v p q
   PlaceAt l code (Handed n x) p q = HandedRow l code n x p q
+  PlaceAt l code (Along n x e) p q = AlongRow l code n x e (ExpressionAt l code e) p q
   PlaceAt l code (Held w) p q = HeldRow l code w p q
   PlaceAt l code (Field d i) p q = FieldRow l d i (PlaceAt l code d) p q
   PlaceAt l code (Element d k e) p q = ElementRow l code d k e (PlaceAt l code d) (ExpressionAt l code e) p q
@@ -506,19 +557,21 @@ abbrev mutual
   ExpressionAt l code (With s k a) p q = WithRow code s k a (ExpressionAt l code s) (ExpressionAt l code a) p q
   ExpressionAt l code (WithSpan s k a b) p q = SpanRow code s k a b (ExpressionAt l code s) (ExpressionAt l code a) (ExpressionAt l code b) p q
   ExpressionAt l code (Invoke x n k given) p q = InvokeRow l code x n k given (GivenAt l code given) p q
+  ExpressionAt l code (High n x) p q = HighRow l code n x p q
 
-  -- an argument, with n words of others below it
-  pub ArgumentAt : Layout → List ℕ → ℕ → Argument → Span
-  ArgumentAt l code n (ByValue k e) p q = TestedRow code n e k (ExpressionAt l code e) p q
-  ArgumentAt l code n (OfPlace d) p q = AddressRow l code n d (PlaceAt l code d) p q
-  ArgumentAt l code n (OfAll d) p q = AddressRow l code n d (PlaceAt l code d) p q
-  ArgumentAt l code n (OfArray d high) p q = ArrayRow l code n d high (PlaceAt l code d) p q
-  ArgumentAt l code n (OfText cs) p q = StringRow l code n cs p q
+  -- an argument, of a call or a request, with n words of others below it
+  pub ArgumentAt : Layout → List ℕ → Bool → ℕ → Argument → Span
+  ArgumentAt l code calls n (ByValue k e) p q = TestedRow code n e k (ExpressionAt l code e) p q
+  ArgumentAt l code calls n (OfPlace d) p q = AddressRow l code n d (PlaceAt l code d) p q
+  ArgumentAt l code calls n (OfAll d) p q = AddressRow l code n d (PlaceAt l code d) p q
+  ArgumentAt l code calls n (OfArray copied d high) p q = ArrayRow l code calls n d high (PlaceAt l code d) p q
+  ArgumentAt l code calls n (OfText cs) p q = StringRow l code calls n cs p q
+  ArgumentAt l code calls n (OfOpened copied i x) p q = HandedOnRow l code calls n i x p q
 
   -- the arguments of a call, one behind another
   pub GivenAt : Layout → List ℕ → Arguments → Span
   GivenAt l code NoMore p q = p ≡ q
-  GivenAt l code (Also a given) p q = IsSingle a × ArgumentRow (PushedRow l code a (ArgumentAt l code 0 a)) (GivenAt l code given) p q
+  GivenAt l code (Also a given) p q = ArgumentRow (PushedRow l code a (ArgumentAt l code true 0 a)) (GivenAt l code given) p q
 
 -- values, each by its code
 abbrev pub WholeRow : Layout → List ℕ → ℕ → Expression → Kind → Span
@@ -639,7 +692,7 @@ arguments_words (Also a given) = argument_words a + arguments_words given
 -- the arguments of a request, which stay on the expression stack, one behind another
 abbrev pub ArgumentsAt : Layout → List ℕ → ℕ → Arguments → Span
 ArgumentsAt l code n NoMore p q = p ≡ q
-ArgumentsAt l code n (Also a given) p q = ArgumentRow (ArgumentAt l code n a) (ArgumentsAt l code (argument_words a + n) given) p q
+ArgumentsAt l code n (Also a given) p q = ArgumentRow (ArgumentAt l code false n a) (ArgumentsAt l code (argument_words a + n) given) p q
 
 pub record RequestRow (l : Layout) (code : List ℕ) (r : request.Request) (given : Arguments) (p q : ℕ) : Type 0 where
   pub middle : ℕ
@@ -875,28 +928,45 @@ abbrev pub leave_code : Option Kind → Instr
 leave_code None = Rtn
 leave_code (Some k) = Trp 8
 
--- a body or a procedure with these variables: its frame, its statements, and its end
-pub record FramedRow (l : Layout) (code : List ℕ) (result : Option Kind) (locals : List Shape) (ss : Statements) (p q : ℕ) : Type 0 where
+-- the instructions that copy its parameters that are open arrays by value, whose words lie from a word of the frame on
+abbrev pub copy_code : ℕ → Shape → List Instr
+copy_code o Absent = []
+copy_code o (Word k) = []
+copy_code o Blank = []
+copy_code o (Join a b) = []
+copy_code o (Row n t) = []
+copy_code o (Address t) = []
+copy_code o (Opened false t) = []
+copy_code o (Opened true t) = Cpy (framed o) (words t) ∷ []
+
+abbrev pub copies_code : ℕ → List Shape → List Instr
+copies_code o [] = []
+copies_code o (t ∷ ts) = copy_code o t ++ copies_code (o + words t) ts
+
+-- a body or a procedure with these variables, of which the first are its parameters: its frame, its copies, its statements, and its end
+pub record FramedRow (l : Layout) (code : List ℕ) (result : Option Kind) (locals parameters : List Shape) (ss : Statements) (p q : ℕ) : Type 0 where
+  pub begun : ℕ
   pub start : ℕ
   pub end : ℕ
-  pub enter : IsAt code p (Ent (framed (frame_words locals ss))) start
+  pub enter : IsAt code p (Ent (framed (frame_words locals ss))) begun
+  pub copies : InstrsAt code (copies_code 4 parameters) begun start
   pub body : BodyAt l code (all_words locals) None ss start end
   pub leave : IsAt code end (leave_code result) q
 
 -- it stands by itself: nothing before or behind it is one of its instructions
-abbrev pub StretchRow : Layout → List ℕ → Option Kind → List Shape → Statements → Span
-StretchRow l code result locals ss p q = FramedRow l (stretch p q code) result locals ss p q
+abbrev pub StretchRow : Layout → List ℕ → Option Kind → (locals parameters : List Shape) → Statements → Span
+StretchRow l code result locals parameters ss p q = FramedRow l (stretch p q code) result locals parameters ss p q
 
 -- procedures from this number on, one behind another, and where each begins
 abbrev pub ProceduresAt : Layout → List ℕ → ℕ → List Procedure → List ℕ → Span
 ProceduresAt l code n [] [] p q = p ≡ q
-ProceduresAt l code n (its ∷ ps) (e ∷ es) p q = (e ≡ l.target p) × ThenRow (StretchRow (in_procedure l n its) code its.result its.locals its.body) (ProceduresAt l code (suc n) ps es) p q
+ProceduresAt l code n (its ∷ ps) (e ∷ es) p q = (e ≡ l.target p) × ThenRow (StretchRow (in_procedure l n its) code its.result its.locals (take its.parameters its.locals) its.body) (ProceduresAt l code (suc n) ps es) p q
 ProceduresAt l code n _ _ p q = ⊥
 
 -- code of a program module: its body, and behind it the procedures, by where each begins
 pub record TranslatesBy (l : Layout) (m : Resolved) (entries code : List ℕ) : Type 0 where
   pub middle : ℕ
-  pub body : StretchRow l code None [] m.body 0 middle
+  pub body : StretchRow l code None [] [] m.body 0 middle
   pub procedures : ProceduresAt l code 1 m.procedures entries middle (length code)
 
 -- the strings and the code of a program module, whose numbers are written as they are

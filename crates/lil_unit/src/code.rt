@@ -1,18 +1,18 @@
 //! The code of a program module: its body, and behind it its procedures, each with its frame, its statements and its end.
 
-ghost use Rattle.std.specs.{Prelude.{◌≡◌, ◌+◌, ◌<◌, ◌≤◌, ℕ, List, length, map, min, None, IfOk, OnOk, Err}, List.All, Option.option_map};
+ghost use Rattle.std.specs.{Prelude.{◌≡◌, ◌+◌, ◌<◌, ◌≤◌, ℕ, List, [], ◌∷◌, take, length, map, min, None, IfOk, OnOk, Err}, List.All, Option.option_map};
 ghost use Rattle.lil_resolved.specs.{Kinds.{Shape, all_words}, Views.{kind_view, IsMeasured, IsMeasuredHeading, statements_of, heading_of, procedure_of, module_of}, Sound.IsSound, Sizes.{body_strings, procedures_strings, module_strings}};
 ghost use Rattle.lil_resolved.specs.Sizes as spec;
 ghost use Rattle.lil_asm.specs.Bytes.{Sayable};
 ghost use Rattle.lil_table.specs.Rows.{framed, leave_code, Translates};
-ghost use Rattle.lil_labels.specs.Drafts.{Adds, empty, in_procedure};
-ghost use Rattle.lil_unit.specs.Framing.{Framed, EachFramed, AllFramed};
+ghost use Rattle.lil_labels.specs.Drafts.{Adds, Emits, empty, in_procedure};
+ghost use Rattle.lil_unit.specs.Framing.{AreFramed, Copying, Framed, EachFramed, AllFramed};
 
 use crate::GenStop;
 use lil_asm::Instr;
 use lil_base::{Bytes, Items, Memory};
 use lil_labels::CodeBuffer;
-use lil_resolved::{RKind, RModule, RProcedure, RStmt};
+use lil_resolved::{RDeclared, RKind, RModule, ROpening, RPassing, RProcedure, RStmt};
 use lil_stmt::{Around, emit_body, frame_words};
 use std::alloc::Global;
 
@@ -46,23 +46,59 @@ fn leave_instr(kind: Option<RKind>) -> Instr
     }
 }
 
-/// Appends statements whose variables take so many words of the frame, with the instructions that enter and leave them: the
-/// words of the frame, and the end of what returns nothing, or a value of a kind.
-fn emit_framed(
+/// Appends the instructions that copy those of the parameters of a procedure that are open arrays by value. The parameters are
+/// the first of its variables.
+fn emit_copies(
     code: &mut CodeBuffer<'_>,
-    locals_words: u16,
-    kind: Option<RKind>,
-    body: &[RStmt],
+    locals: &[RDeclared],
+    parameters: usize,
 ) -> Result<(), Memory>
-    ensures { OnOk result ((locals : List Shape) → locals_words ≡ framed (all_words locals) → Adds (body_strings (statements_of body.now)) code.old code.new (Framed (option_map kind_view kind) locals (statements_of body.now))) }
+    ensures { OnOk result (Emits code.old code.new (Copying (take parameters locals.now))) }
+{
+    for (i, variable) in locals.iter().enumerate() {
+        if i < parameters {
+            emit_copy(code, variable)?;
+        }
+    }
+    Ok(())
+}
+
+/// Appends the instruction that copies a parameter, where it is an open array by value.
+fn emit_copy(code: &mut CodeBuffer<'_>, variable: &RDeclared) -> Result<(), Memory>
+    ensures { OnOk result (Emits code.old code.new (Copying (variable.now ∷ []))) }
+{
+    match variable.passing {
+        RPassing::ByValue | RPassing::ByPlace | RPassing::Open(ROpening::Lent) => Ok(()),
+        RPassing::Open(ROpening::Copied) => {
+            let words = code.words(variable.shape);
+            code.put(Instr::Cpy(variable.offset, words))
+        }
+    }
+}
+
+/// What a body or a procedure has before its statements and behind them: the words of its variables in its frame, its
+/// variables, of which the first are parameters, how many these are, and the kind of what it returns.
+#[derive(Clone, Copy)]
+struct Frame<'m> {
+    words: u16,
+    locals: &'m [RDeclared],
+    parameters: usize,
+    kind: Option<RKind>,
+}
+
+/// Appends statements with the instructions that enter and leave them: the words of the frame, the copies of its parameters,
+/// and the end of what returns nothing, or a value of a kind.
+fn emit_framed(code: &mut CodeBuffer<'_>, frame: Frame<'_>, body: &[RStmt]) -> Result<(), Memory>
+    ensures { OnOk result ((locals : List Shape) (parameters : List Shape) → AreFramed code.old.tables.shapes frame.entry.words frame.entry.locals.now frame.entry.parameters locals parameters → Adds (body_strings (statements_of body.now)) code.old code.new (Framed (option_map kind_view frame.entry.kind) locals parameters (statements_of body.now))) }
 {
     let around = Around {
-        words: locals_words,
+        words: frame.words,
         exit: None,
     };
-    code.put(Instr::Ent(frame_words(locals_words, body)))?;
+    code.put(Instr::Ent(frame_words(frame.words, body)))?;
+    emit_copies(code, frame.locals, frame.parameters)?;
     emit_body(code, body, around)?;
-    code.put(leave_instr(kind))?;
+    code.put(leave_instr(frame.kind))?;
     Ok(())
 }
 
@@ -79,12 +115,13 @@ fn emit_procedures(
         entries.push((code.len() % 65_536) as u16)?;
         code.enter(Some(i));
         let heading = &procedure.heading;
-        emit_framed(
-            code,
-            heading.words,
-            heading.result,
-            procedure.body.as_slice(),
-        )?;
+        let frame = Frame {
+            words: heading.words,
+            locals: heading.locals.as_slice(),
+            parameters: heading.parameters,
+            kind: heading.result,
+        };
+        emit_framed(code, frame, procedure.body.as_slice())?;
     }
     Ok(entries)
 }
@@ -109,7 +146,13 @@ fn emit_module<'m>(alloc: Global, m: &'m RModule) -> Result<Drafted<'m>, Memory>
         m.words,
         m.procedures.as_slice(),
     );
-    emit_framed(&mut code, 0, None, m.body.as_slice())?;
+    let frame = Frame {
+        words: 0,
+        locals: &[],
+        parameters: 0,
+        kind: None,
+    };
+    emit_framed(&mut code, frame, m.body.as_slice())?;
     let entries = emit_procedures(&mut code, m.procedures.as_slice())?;
     Ok(Drafted { code, entries })
 }

@@ -1,5 +1,6 @@
-use Rattle.lil_stmt.specs.Generating.{ArgumentPart, argument_part}
-use Rattle.lil_stmt.proofs.Strings.{next_part}
+use Rattle.lil_expr.specs.Generating.{argument_part}
+use Rattle.lil_stmt.specs.Generating.{ArgumentPart}
+use Rattle.lil_expr.specs.Strings.{next_part}
 use Rattle.lil_stmt.proofs.simple.emit_arguments.Goals as goal
 
 pub loop-argument-preserved : goal.loop-argument-preserved

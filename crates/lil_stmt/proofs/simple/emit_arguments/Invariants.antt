@@ -1,7 +1,8 @@
 use Rattle.std.proofs.Common.{take}
 use Rattle.std.specs.List.{flat_map}
 use Rattle.lil_labels.specs.Drafts.{Each, Adds}
-use Rattle.lil_stmt.specs.Generating.{ArgumentPart, argument_part}
+use Rattle.lil_expr.specs.Generating.{argument_part}
+use Rattle.lil_stmt.specs.Generating.{ArgumentPart}
 use Rattle.lil_stmt.proofs.simple.emit_arguments.Given as goal
 
 abbrev pub invariant-loop-argument : goal.invariant-loop-argument
