@@ -1,5 +1,5 @@
 -- One part of a call after the other.
-use Rattle.std.proofs.Common.{◌≡◌, ℕ, max, Bool, true, false, ◌&&◌, is_some, List, length, Option, None, Result, IfOk, subst, ap, sym, ◌∙◌}
+use Rattle.std.proofs.Common.{◌≡◌, ℕ, max, Bool, true, false, ◌&&◌, List, length, Option, None, Result, Ok, IfOk, subst, ap, sym, ◌∙◌}
 use Rattle.std.proofs.lemmas.Result.{IfOk-weaker}
 use Rattle.lil_base.specs.declared.fault.Place.{Place}
 use Rattle.lil_types.specs.Types.{Table}
@@ -69,13 +69,17 @@ module _ (t : Table) (p : Place) (v : Invoked) where
   no_routine_call wanted xs n {b = b} {r = r} {s = s} e h i =
       said_at (heading_node t p wanted v.sort (length xs)) (passed_if t p v xs) false (subst (λ n. Said (heading_node t p wanted v.sort n) r b s) e h) i (said_pure None s)
 
-  pub is_value_call : (xs : List Argument) {s : Option Passed} {o : Option Found} {r u : Option Fault} (sort : Option ℕ)
-      → Said (routine_mean t p true v xs) r s u → sort ≡ result t v.sort → o ≡ call_found t p v.target sort s → Said (routine_value t p v xs) r o u
-  is_value_call xs {s = s} sort h i e = said_to (said_map (call_found t p v.target (result t v.sort)) h) (e ∙ ap (λ sort. call_found t p v.target sort s) i)
+  -- what the arguments come to beside w, which is v
+  pub is_value_call : {E : Type 0} (xs : List Argument) (q : Result (Option Passed) E) (w : Invoked) {s : Option Passed} {o : Option Found} {r u : Option Fault} (sort : Option ℕ)
+      → IfOk q (λ s. Said (routine_mean t p true v xs) r s u) → q ≡ Ok s → w ≡ v → sort ≡ result t w.sort → o ≡ call_found t p w.target sort s → Said (routine_value t p v xs) r o u
+  is_value_call xs q w {s = s} {r = r} {u = u} sort h is same i e =
+      said_to (said_map (call_found t p v.target (result t v.sort)) (subst (λ q. IfOk q (λ s. Said (routine_mean t p true v xs) r s u)) is h))
+      (e ∙ ap (λ sort. call_found t p w.target sort s) i ∙ ap (λ (v : Invoked). call_found t p v.target (result t v.sort) s) same)
 
-  pub is_statement_call : (xs : List Argument) {s : Option Passed} {o : Option RStmt} {r u : Option Fault}
-      → Said (routine_mean t p false v xs) r s u → o ≡ call_statement v s → Said (routine_statement t p v xs) r o u
-  is_statement_call xs h e = said_to (said_map (call_statement v) h) e
+  pub is_statement_call : {E : Type 0} (xs : List Argument) (q : Result (Option Passed) E) (w : Invoked) {s : Option Passed} {o : Option RStmt} {r u : Option Fault}
+      → IfOk q (λ s. Said (routine_mean t p false v xs) r s u) → q ≡ Ok s → w ≡ v → o ≡ call_statement w s → Said (routine_statement t p v xs) r o u
+  is_statement_call xs q w {s = s} {r = r} {u = u} h is same e =
+      said_to (said_map (call_statement v) (subst (λ q. IfOk q (λ s. Said (routine_mean t p false v xs) r s u)) is h)) (e ∙ ap (λ (v : Invoked). call_statement v s) same)
 
 -- ---- what is called
 module _ (t : Table) (p : Place) (xs : List Argument) where

@@ -39,7 +39,7 @@ depth_node p s = (
 abbrev pub is_resident : Target → Bool
 is_resident (target.Resident r) = true
 is_resident (target.Own n levels) = false
-is_resident target.Value = false
+is_resident (target.Value x) = false
 
 -- the arguments are looked at where their number is right
 abbrev pub passed_if : Table → Place → Invoked → List Argument → Bool → Option Passed × List Row
@@ -56,11 +56,16 @@ own_value n levels None h = None
 own_value n levels (Some j) None = None
 own_value n levels (Some j) (Some xs) = if nat_lt n 255 && nat_lt levels 256 then Some (e.Invoke (n + 1) levels j xs) else None
 
--- resident procedures return nothing, and no code is made of a call of a variable's value
+-- a function that is a value
+abbrev pub invoked_value : Option RExpr → Option RKind → Option (List RArgument) → Option RExpr
+invoked_value (Some x) (Some j) (Some xs) = Some (e.InvokeValue x j xs)
+invoked_value _ _ _ = None
+
+-- resident procedures return nothing
 abbrev pub value_by : Target → Option RKind → Option (List RArgument) → Option RExpr
 value_by (target.Resident r) k h = None
 value_by (target.Own n levels) k h = own_value n levels k h
-value_by target.Value k h = None
+value_by (target.Value x) k h = invoked_value x k h
 
 abbrev pub call_found : Table → Place → Target → Option ℕ → Option Passed → Option Found
 call_found t p of None s = None
@@ -75,11 +80,15 @@ abbrev pub own_call : ℕ → ℕ → Option (List RArgument) → Option RStmt
 own_call n levels None = None
 own_call n levels (Some xs) = if nat_lt n 255 && nat_lt levels 256 then Some (statement.Call (n + 1) levels xs) else None
 
--- no code is made of a call of a variable's value
+-- a proper procedure that is a value
+abbrev pub called_value : Option RExpr → Option (List RArgument) → Option RStmt
+called_value (Some x) (Some xs) = Some (statement.CallValue x xs)
+called_value _ _ = None
+
 abbrev pub call_of : Target → Option (List RArgument) → Option RStmt
 call_of (target.Resident r) h = called r h
 call_of (target.Own n levels) h = own_call n levels h
-call_of target.Value h = None
+call_of (target.Value x) h = called_value x h
 
 abbrev pub call_statement : Invoked → Option Passed → Option RStmt
 call_statement v None = None
@@ -96,22 +105,22 @@ no_call p = (None, row true p NotCallable ∷ [])
 abbrev pub of_procedure : ℕ → ℕ → ℕ → Invoked
 of_procedure sort n levels = record { sort = sort; depth = 1; target = target.Own n levels }
 
-abbrev pub of_variable : ℕ → ℕ → Invoked
-of_variable sort depth = record { sort = sort; depth = depth; target = target.Value }
+abbrev pub of_variable : ℕ → ℕ → Option RExpr → Invoked
+of_variable sort depth x = record { sort = sort; depth = depth; target = target.Value x }
 
 abbrev pub of_resident : Resident → ℕ → Invoked
 of_resident r sort = record { sort = sort; depth = 1; target = target.Resident r }
 
 abbrev pub value_of : Table → Place → Callee → List Argument → Option Found × List Row
 value_of t p (callee.Procedure sort n levels) xs = routine_value t p (of_procedure sort n levels) xs
-value_of t p (callee.Variable sort depth) xs = routine_value t p (of_variable sort depth) xs
+value_of t p (callee.Variable sort depth x) xs = routine_value t p (of_variable sort depth x) xs
 value_of t p (callee.Resident r sort) xs = routine_value t p (of_resident r sort) xs
 value_of t p (callee.Standard of) xs = function_mean t p of xs
 value_of t p callee.Other xs = no_call p
 
 abbrev pub statement_of : Table → Place → Callee → List Argument → Option RStmt × List Row
 statement_of t p (callee.Procedure sort n levels) xs = routine_statement t p (of_procedure sort n levels) xs
-statement_of t p (callee.Variable sort depth) xs = routine_statement t p (of_variable sort depth) xs
+statement_of t p (callee.Variable sort depth x) xs = routine_statement t p (of_variable sort depth x) xs
 statement_of t p (callee.Resident r sort) xs = routine_statement t p (of_resident r sort) xs
 statement_of t p (callee.Standard of) xs = procedure_mean t p of xs
 statement_of t p callee.Other xs = no_call p

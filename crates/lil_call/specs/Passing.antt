@@ -1,9 +1,8 @@
 -- How arguments are handed over to the parameters of a procedure.
 use Rattle.std.specs.Prelude.{ℕ, ◌+◌, ◌==◌, nat_lt, max, Bool, true, false, not, ◌&&◌, ◌||◌, if◌then◌else◌, List, [], ◌∷◌, ◌++◌, length, Option, Some, None}
-use Rattle.lil_base.specs.declared.fault.FaultKind.TheVariants.{Assign, VarArgument, ConstRange, WrongKind, NotBuilt}
+use Rattle.lil_base.specs.declared.fault.FaultKind.TheVariants.{Assign, VarArgument, ConstRange, WrongKind}
 use Rattle.lil_types.specs.{Types.{Table, char, same}, declared.table.Parameter.Parameter}
 use Rattle.lil_report.specs.Told.{Row, row, walk}
-use Rattle.lil_shapes.specs.Bases.{composite_at}
 use Rattle.lil_scope.specs.declared.thing.Kind.{Kind}
 use Rattle.lil_scope.specs.declared.thing.Kind.TheVariants as kind
 use Rattle.lil_kinds.specs.{Forms.{array_parts, parameter}, Kinds.{assignable, misses}, declared.{forms.ArrayParts.ArrayParts, found.{Found.Found, Standing.{Standing, TheVariants.Variable}}}}
@@ -69,12 +68,8 @@ is_wrong_place t p s a = p.by_place && not (takes_place t p s a)
 abbrev pub is_outside : Table → Parameter → Kind → Bool
 is_outside t p a = not p.by_place && (not p.open_array && misses t p.sort a)
 
--- a string for an array by value, which has no code yet
-abbrev pub is_spelled : Table → Parameter → Kind → Bool
-is_spelled t p a = not p.by_place && (not p.open_array && (is_text a && composite_at t p.sort))
-
 abbrev pub is_right : Table → Parameter → Found → Bool
-is_right t p x = not (is_wrong_value t p x.kind) && (not (is_wrong_place t p x.standing x.kind) && (not (is_outside t p x.kind) && not (is_spelled t p x.kind)))
+is_right t p x = not (is_wrong_value t p x.kind) && (not (is_wrong_place t p x.standing x.kind) && not (is_outside t p x.kind))
 
 -- ---- depth
 -- beside so many words that lie below it; 13 stands for all depths above 12
@@ -105,14 +100,12 @@ with_argument t resident p s x = record {
 -- 31 Assign: the parameter doesn't take the value
 -- 33 VarArgument: no variable, or one of another type
 -- 50 ConstRange: a constant outside the parameter's type
--- 90 NotBuilt: a string for an array by value
 unfoldable pub argument_node : Table → Bool → Parameter → Passed → Found → Passed × List Row
 argument_node t resident p s x = (
   with_argument t resident p s x,
   row (is_wrong_value t p x.kind) x.first Assign
       ∷ row (is_wrong_place t p x.standing x.kind) x.first VarArgument
-      ∷ row (is_outside t p x.kind) x.first ConstRange
-      ∷ row (is_spelled t p x.kind) x.first NotBuilt ∷ [],
+      ∷ row (is_outside t p x.kind) x.first ConstRange ∷ [],
 )
 
 abbrev pub without_more : Passed → Passed

@@ -10,16 +10,17 @@ use lil_base::{FaultKind, Items, Memory, Place};
 use lil_declared::{Resident, Standard};
 use lil_kinds::Found;
 use lil_report::Report;
-use lil_resolved::RStmt;
+use lil_resolved::{RExpr, RStmt};
 use lil_types::{TypeId, TypeTable};
 use std::alloc::Global;
 
-/// What is called: a procedure, by its procedure type, its number, and how many procedures out it is declared; the value of a variable, by its type and its depth; a procedure of a
-/// resident module; a standard procedure; or what can't be called.
-#[derive(Clone, Copy)]
+/// What is called: a procedure, by its procedure type, its number, and how many procedures out it is declared; the value of a
+/// variable, by its type, its depth, and the value itself where it has code; a procedure of a resident module; a standard
+/// procedure; or what can't be called.
+#[derive(Drop)]
 pub enum Callee {
     Procedure(TypeId, usize, usize),
-    Variable(TypeId, usize),
+    Variable(TypeId, usize, Option<RExpr>),
     Resident(Resident, TypeId),
     Standard(Standard),
     Other,
@@ -42,13 +43,13 @@ fn of_procedure(sort: TypeId, number: usize, levels: usize) -> Invoked
     }
 }
 
-fn of_variable(sort: TypeId, depth: usize) -> Invoked
-    ensures { result ≡ spec.of_variable sort depth }
+fn of_variable(sort: TypeId, depth: usize, value: Option<RExpr>) -> Invoked
+    ensures { result ≡ spec.of_variable sort depth value }
 {
     Invoked {
         sort,
         depth,
-        target: Target::Value,
+        target: Target::Value(value),
     }
 }
 
@@ -86,8 +87,8 @@ fn value(
             let v = of_procedure(sort, number, levels);
             value_call(alloc, t, report, first, v, arguments)
         }
-        Callee::Variable(sort, depth) => {
-            let v = of_variable(sort, depth);
+        Callee::Variable(sort, depth, value) => {
+            let v = of_variable(sort, depth, value);
             value_call(alloc, t, report, first, v, arguments)
         }
         Callee::Resident(number, sort) => {
@@ -114,8 +115,8 @@ fn statement(
             let v = of_procedure(sort, number, levels);
             statement_call(alloc, t, report, first, v, arguments)
         }
-        Callee::Variable(sort, depth) => {
-            let v = of_variable(sort, depth);
+        Callee::Variable(sort, depth, value) => {
+            let v = of_variable(sort, depth, value);
             statement_call(alloc, t, report, first, v, arguments)
         }
         Callee::Resident(number, sort) => {

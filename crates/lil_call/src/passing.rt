@@ -9,7 +9,6 @@ use lil_kinds::{ArrayParts, Found, Standing, array_parts, assignable, misses, pa
 use lil_report::Report;
 use lil_resolved::RArgument;
 use lil_scope::Kind;
-use lil_shapes::composite_at;
 use lil_types::{CHAR, Parameter, TypeId, TypeTable, same};
 use std::alloc::Global;
 
@@ -136,13 +135,6 @@ fn is_wrong_place(t: &TypeTable, p: Parameter, standing: Standing, a: Kind) -> b
     p.by_place && !takes_place(t, p, standing, a)
 }
 
-/// Whether an argument is a string for an array by value, which has no code yet.
-fn is_spelled(t: &TypeTable, p: Parameter, a: Kind) -> bool
-    ensures { result ≡ spec.is_spelled t.now p a }
-{
-    !p.by_place && !p.open_array && is_text(a) && composite_at(t, p.sort)
-}
-
 fn is_outside(t: &TypeTable, p: Parameter, a: Kind) -> bool
     ensures { result ≡ spec.is_outside t.now p a }
 {
@@ -222,10 +214,8 @@ fn with_argument(
     let outside = is_outside(t, p, x.kind);
     report.note(wrong_value, x.first, FaultKind::Assign);
     report.note(wrong_place, x.first, FaultKind::VarArgument);
-    let spelled = is_spelled(t, p, x.kind);
     report.note(outside, x.first, FaultKind::ConstRange);
-    report.note(spelled, x.first, FaultKind::NotBuilt);
-    let is_right = s.is_right && !wrong_value && !wrong_place && !outside && !spelled;
+    let is_right = s.is_right && !wrong_value && !wrong_place && !outside;
     let words = words_after(resident, p, s.words);
     let depth = s.depth.max(raised(s.words, x.depth));
     let (parameters, handed) = beside(s.parameters, handed_over(t, p, s.handed, x))?;

@@ -5,7 +5,7 @@ ghost use Rattle.lil_call.specs.Calls as spec;
 use crate::call::Argument;
 use crate::functions::agrees;
 use crate::passing::{Passed, nothing_passed, pass_all};
-use lil_base::{FaultKind, Items, Memory, Place};
+use lil_base::{Boxed, FaultKind, Items, Memory, Place, beside};
 use lil_declared::Resident;
 use lil_forms::{called, value_form};
 use lil_kinds::{Found, Standing, arity, is_routine, result};
@@ -17,24 +17,24 @@ use lil_types::{TypeId, TypeTable};
 use std::alloc::Global;
 
 /// What is called: a procedure of a resident module; one of the module itself, by its number and how many procedures out
-/// it is declared; or the value of a variable.
-#[derive(Clone, Copy)]
+/// it is declared; or the value of a variable, where it has code.
+#[derive(Drop)]
 pub enum Target {
     Resident(Resident),
     Own(usize, usize),
-    Value,
+    Value(Option<RExpr>),
 }
 
 /// A procedure that is called: its procedure type, the depth of its designator, and which one it is.
-#[derive(Clone, Copy)]
+#[derive(Drop)]
 pub struct Invoked {
     pub sort: TypeId,
     pub depth: usize,
     pub target: Target,
 }
 
-fn is_resident(target: Target) -> bool
-    ensures { result ≡ spec.is_resident target }
+fn is_resident(target: &Target) -> bool
+    ensures { result ≡ spec.is_resident target.now }
 {
     matches!(target, Target::Resident(_))
 }
@@ -84,16 +84,16 @@ fn routine(
     report: &mut Report,
     first: Place,
     wanted: bool,
-    v: Invoked,
+    v: &Invoked,
     arguments: Items<Argument>,
 ) -> Result<Option<Passed>, Memory>
-    ensures { IfOk result (λ o. Said (spec.routine_mean t.now first wanted v arguments) report.old o report.new) }
+    ensures { IfOk result (λ o. Said (spec.routine_mean t.now first wanted v.now arguments) report.old o report.new) }
 {
     let count = arguments.len();
     let ready = heading(t, report, first, wanted, v.sort, count);
     if ready {
         let start = nothing_passed(alloc, v.depth);
-        let resident = is_resident(v.target);
+        let resident = is_resident(&v.target);
         let passed = pass_all(t, report, resident, v.sort, start, arguments)?;
         Ok(not_deep(report, first, passed))
     } else {
@@ -121,31 +121,55 @@ fn own_value(
     }
 }
 
-/// What a call returns. Resident procedures return nothing, and no code is made of a call of a variable's value.
-fn value_by(target: Target, kind: Option<RKind>, handed: Option<Items<RArgument>>) -> Option<RExpr>
-    ensures { result ≡ spec.value_by target kind handed }
+/// What the function returns that is a value.
+fn invoked_value(
+    alloc: Global,
+    value: Option<RExpr>,
+    kind: Option<RKind>,
+    given: Option<Items<RArgument>>,
+) -> Result<Option<RExpr>, Memory>
+    ensures { IfOk result (λ x. x ≡ spec.invoked_value value kind given) }
+{
+    let (Some(value), Some(kind), Some(given)) = (value, kind, given) else {
+        return Ok(None);
+    };
+    let (given, value) = beside(given, Boxed::new(alloc, value))?;
+    Ok(Some(RExpr::InvokeValue(value, kind, given)))
+}
+
+/// What a call returns. Resident procedures return nothing.
+fn value_by(
+    alloc: Global,
+    target: Target,
+    kind: Option<RKind>,
+    handed: Option<Items<RArgument>>,
+) -> Result<Option<RExpr>, Memory>
+    ensures { IfOk result (λ x. x ≡ spec.value_by target kind handed) }
 {
     match target {
-        Target::Own(number, levels) => own_value(number, levels, kind, handed),
-        Target::Resident(_) | Target::Value => {
+        Target::Own(number, levels) => Ok(own_value(number, levels, kind, handed)),
+        Target::Value(value) => invoked_value(alloc, value, kind, handed),
+        Target::Resident(_) => {
             drop(handed);
-            None
+            Ok(None)
         }
     }
 }
 
 /// A call that gives a value.
 fn call_found(
+    alloc: Global,
     t: &TypeTable,
     first: Place,
     target: Target,
     sort: Option<TypeId>,
     s: Option<Passed>,
-) -> Option<Found>
-    ensures { result ≡ spec.call_found t.now first target sort s }
+) -> Result<Option<Found>, Memory>
+    ensures { IfOk result (λ o. o ≡ spec.call_found t.now first target sort s) }
 {
     let (Some(sort), Some(s)) = (sort, s) else {
-        return None;
+        drop(target);
+        return Ok(None);
     };
     let Passed {
         parameters,
@@ -154,14 +178,14 @@ fn call_found(
         ..
     } = s;
     drop(parameters);
-    let kind = kind_at(t, sort);
-    Some(Found {
-        form: value_form(value_by(target, kind, handed)),
+    let value = value_by(alloc, target, kind_at(t, sort), handed)?;
+    Ok(Some(Found {
+        form: value_form(value),
         kind: Kind::Of(sort),
         first,
         depth,
         standing: Standing::Value,
-    })
+    }))
 }
 
 /// A call of a procedure in an expression.
@@ -175,9 +199,11 @@ pub(crate) fn value_call(
 ) -> Result<Option<Found>, Memory>
     ensures { IfOk result (λ o. Said (spec.routine_value t.now first v arguments) report.old o report.new) }
 {
-    let s = routine(alloc, t, report, first, true, v, arguments)?;
-    let sort = result(t, v.sort);
-    Ok(call_found(t, first, v.target, sort, s))
+    let passed = routine(alloc, t, report, first, true, &v, arguments);
+    let (of, s) = beside(v, passed)?;
+    let sort = result(t, of.sort);
+    let found = call_found(alloc, t, first, of.target, sort, s)?;
+    Ok(found)
 }
 
 /// A call of one of the module's procedures, whose number from 1 and levels are bytes, where its arguments have code.
@@ -195,17 +221,23 @@ fn own_call(number: usize, levels: usize, given: Option<Items<RArgument>>) -> Op
     }
 }
 
-/// No code is made of a call of a variable's value.
+/// A call of the procedure that is a value.
+fn called_value(value: Option<RExpr>, given: Option<Items<RArgument>>) -> Option<RStmt>
+    ensures { result ≡ spec.called_value value given }
+{
+    match value.zip(given) {
+        None => None,
+        Some((value, given)) => Some(RStmt::CallValue(value, given)),
+    }
+}
+
 fn call_of(target: Target, handed: Option<Items<RArgument>>) -> Option<RStmt>
     ensures { result ≡ spec.call_of target handed }
 {
     match target {
         Target::Resident(resident) => called(resident, handed),
         Target::Own(number, levels) => own_call(number, levels, handed),
-        Target::Value => {
-            drop(handed);
-            None
-        }
+        Target::Value(value) => called_value(value, handed),
     }
 }
 
@@ -213,7 +245,10 @@ fn call_statement(v: Invoked, s: Option<Passed>) -> Option<RStmt>
     ensures { result ≡ spec.call_statement v s }
 {
     match s {
-        None => None,
+        None => {
+            drop(v);
+            None
+        }
         Some(s) => {
             let Passed {
                 parameters,
@@ -237,6 +272,7 @@ pub(crate) fn statement_call(
 ) -> Result<Option<RStmt>, Memory>
     ensures { IfOk result (λ o. Said (spec.routine_statement t.now first v arguments) report.old o report.new) }
 {
-    let s = routine(alloc, t, report, first, false, v, arguments)?;
-    Ok(call_statement(v, s))
+    let passed = routine(alloc, t, report, first, false, &v, arguments);
+    let (of, s) = beside(v, passed)?;
+    Ok(call_statement(of, s))
 }

@@ -1,5 +1,5 @@
 -- What each form of type means, from what its parts mean.
-use Rattle.std.proofs.Common.{true, ◌≡◌, ℕ, List, [], map, reverse, Option, Some, None, sym, ap, subst, ◌∙◌}
+use Rattle.std.proofs.Common.{◌≡◌, ℕ, List, [], map, reverse, Option, Some, None, sym, ap, subst, ◌∙◌}
 use Rattle.lil_base.specs.declared.fault.Place.{Place}
 use Rattle.lil_text.specs.declared.tree.{Ident.Ident, Qualident.Qualident}
 use Rattle.lil_language.specs.declared.tree.Expr.{Expr}
@@ -12,7 +12,7 @@ use Rattle.lil_types.specs.declared.table.TypeForm.{TypeForm}
 use Rattle.lil_report.specs.{declared.report.Fault.Fault, Told.{after, walk, Said}, Laws.{said_as, said_after, walk_map}}
 use Rattle.lil_scope.specs.declared.env.Env.{Env}
 use Rattle.lil_kinds.specs.declared.found.Found.{Found}
-use Rattle.lil_check_value.specs.{Looks.not_built, Values.asked_means}
+use Rattle.lil_check_value.specs.Values.{asked_means}
 use Rattle.lil_check_type.specs.{declared.{bounds.Bound.Bound, named.NamedType.NamedType, records.Fields.Fields}, Walks.walk_steps, Made.{Made, form_node}, Bounds.{bound_of, range_node}, Simple.{base_means, simple_means, set_means}, Labels.{no_labels, label_step}, Records.{tag_means, no_fields, with_labels, record_node, procedure_means}}
 use Rattle.lil_check_type.specs.Sorts.{index_step, array_step, array_means, pointer_means, bare_name, Sense, Part, Cased, FieldSense, VariantSense, fields_by, named_fields, variants_by, case_fields, field_layer, variant_layer, sort_layer, sense, fields_sense, variant_sense, fields_rolled, sort_rolled, sort_means, list_step, lists_mean, others_mean, variants_mean, record_means}
 
@@ -54,7 +54,7 @@ set_is p x = ap sense (sym (v.rolls-SetOver p x)) ∙ sort_rolled (o.SetOver p x
 pub pointer_is : (p : Place) (y : Sort) → sense (v.PointerTo p y) ≡ record { name = None; means = λ e. pointer_means p (sense y).name (sense y).means e }
 pointer_is p y = ap sense (sym (v.rolls-PointerTo p y)) ∙ sort_rolled (o.PointerTo p y)
 
-pub procedure_is : (p : Place) (fs : List Formal) (q : Option Qualident) → sense (v.ProcedureOf p fs q) ≡ record { name = None; means = λ e. not_built true p (procedure_means e p fs q) }
+pub procedure_is : (p : Place) (fs : List Formal) (q : Option Qualident) → sense (v.ProcedureOf p fs q) ≡ record { name = None; means = λ e. procedure_means e p fs q }
 procedure_is p fs q = ap sense (sym (v.rolls-ProcedureOf p fs q)) ∙ sort_rolled (o.ProcedureOf p fs q)
 
 pub ruleset sort_steps = (walk_steps, variant_is, named_is, cases_are, scalar_is, array_is, record_is, set_is, pointer_is, procedure_is)

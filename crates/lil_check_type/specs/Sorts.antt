@@ -1,16 +1,15 @@
 -- What types mean: their numbers, what is declared behind them, and the tests of their nodes.
-use Rattle.std.specs.Prelude.{true, ◌≡◌, ℕ, ◌==◌, ◌||◌, List, [], ◌∷◌, ◌++◌, reverse, Option, Some, None, if◌then◌else◌}
+use Rattle.std.specs.Prelude.{◌≡◌, ℕ, ◌==◌, List, [], ◌∷◌, ◌++◌, reverse, Option, Some, None, if◌then◌else◌}
 use Rattle.lil_base.specs.declared.fault.Place.{Place}
 use Rattle.lil_text.specs.declared.tree.{Ident.Ident, Qualident.Qualident}
 use Rattle.lil_language.specs.declared.unit.{Simple.Simple, Sort.Sort, FieldList.{FieldList, TheOpen.{FieldList-F, Sort-F, Variant-F}, TheFolds.{fold-FieldList, fold-Sort, fold-Variant, map-FieldList, map-Sort, map-Variant, fold-roll-FieldList, fold-roll-Sort, fold-roll-Variant}, TheViews.{roll-FieldList, roll-Sort}}, Variant.{Variant, roll-Variant}}
 use Rattle.lil_language.specs.declared.unit.Simple.TheVariants as simple
 use Rattle.lil_language.specs.declared.unit.FieldList.TheOpen as o
-use Rattle.lil_types.specs.{declared.table.TypeForm.TypeForm, Types.{proc, process}}
+use Rattle.lil_types.specs.{declared.table.TypeForm.TypeForm, Types.{process}}
 use Rattle.lil_types.specs.declared.table.TypeForm.TheVariants as form
 use Rattle.lil_report.specs.Told.{Row, after, walk}
 use Rattle.lil_scope.specs.{declared.{env.Env.Env, thing.Thing.Thing}, Names.{find, is_later}}
 use Rattle.lil_scope.specs.declared.thing.Thing.TheVariants as t
-use Rattle.lil_check_value.specs.Looks.{not_built}
 use Rattle.lil_check_type.specs.{declared.{records.Fields.Fields, labels.Labels.Labels}, Made.{Made, type_node, form_node}, Simple.{simple_means, index_means, set_means}, Labels.{no_labels, label_step}, Records.{no_fields, field_step, tag_means, with_labels, record_node, procedure_means}}
 
 -- ---- arrays: those over the last indexes are the elements of those before
@@ -38,7 +37,7 @@ pointer_form None = None
 
 -- until then it points to what the name stands for so far, where something lies there
 abbrev pub target_so_far : Option Thing → ℕ
-target_so_far (Some (t.Type n)) = if n == proc || n == process then 0 else n
+target_so_far (Some (t.Type n)) = if n == process then 0 else n
 target_so_far _ = 0
 
 abbrev pub waiting_means : Env → Place → Ident → Made × List Row
@@ -107,8 +106,7 @@ sort_layer (o.ArrayOf p xs y) = record { name = None; means = λ e. array_means 
 sort_layer (o.RecordOf p fs) = record { name = None; means = λ e. after (fields_by fs (e, no_fields)) (λ q. record_node q.0 p q.1) }
 sort_layer (o.SetOver p x) = record { name = None; means = λ e. set_means e p x }
 sort_layer (o.PointerTo p y) = record { name = None; means = λ e. pointer_means p y.name y.means e }
--- 90 NotBuilt
-sort_layer (o.ProcedureOf p fs q) = record { name = None; means = λ e. not_built true p (procedure_means e p fs q) }
+sort_layer (o.ProcedureOf p fs q) = record { name = None; means = λ e. procedure_means e p fs q }
 
 unfoldable pub sense : Sort → Sense
 sense = fold-Sort FieldSense Sense VariantSense field_layer sort_layer variant_layer

@@ -1,79 +1,23 @@
-ghost use Rattle.std.specs.Prelude.{◌≡◌, ◌&&◌, ◌++◌, ◌∷◌, [], is_some, IfOk};
+ghost use Rattle.std.specs.Prelude.{◌≡◌, ◌&&◌, is_some, IfOk};
 ghost use Rattle.lil_report.specs.Told.{Said, walk};
 ghost use Rattle.lil_check_type.specs.Labels.{label_step};
 ghost use Rattle.lil_check_type.specs.Records as spec;
 
 use crate::labels::{Labels, add_label};
 use crate::made::{add_form, ordinal};
-use lil_base::{FaultKind, Items, Memory, Place};
+use lil_base::{FaultKind, Memory, Place};
 use lil_check_value::type_named;
 use lil_language::Range;
 use lil_report::Report;
-use lil_scope::{Block, Entry, Env, Thing};
+use lil_scope::Env;
 use lil_text::{Ident, Qualident};
-use lil_types::{Field, TypeForm, TypeId};
+use lil_types::{TypeForm, TypeId};
 use std::alloc::Global;
-use std::marker::Model;
-
-/// Fields in their order, and a block of their names to look them up. Contracts see the list of the fields.
-#[derive(Drop)]
-pub struct NamedFields {
-    items: Items<Field>,
-    names: Block,
-}
-
-impl Model for NamedFields {
-    ghost use Rattle.std.specs.Prelude.{◌≡◌, List, ℕ, is_some};
-    ghost use Rattle.std.specs.List.{list_any};
-    ghost use Rattle.lil_types.specs.declared.table.Field.{Field};
-    ghost use Rattle.lil_scope.specs.Names.{entry_in, same};
-
-    ghost Value = { List Field };
-
-    ghost view = { λ f. f.items };
-
-    ghost invariant = { λ f. (n : List ℕ) → is_some (entry_in f.names n) ≡ list_any (λ (x : Field). same n x.name) f.items };
-}
-
-impl NamedFields {
-    pub fn new(alloc: Global) -> NamedFields
-        ensures { result ≡ [] }
-    {
-        NamedFields {
-            items: Items::new(alloc),
-            names: Block::new(alloc),
-        }
-    }
-
-    /// With a field more, and whether its name stood before.
-    fn with(self, alloc: Global, name: &Ident, sort: TypeId) -> Result<(bool, NamedFields), Memory>
-        ensures told { IfOk result (λ r. r.0 ≡ spec.has_field self name.now.name) }
-        ensures more { IfOk result (λ r. r.1 ≡ self ++ spec.field name.now.name sort ∷ []) }
-    {
-        let NamedFields { items, names } = self;
-        let mut items = items;
-        let mut names = names;
-        let entry = Entry {
-            thing: Thing::Type(sort),
-            place: name.place,
-        };
-        let before = names.declare(alloc, &name.name, entry)?;
-        let name = name.name.copy(alloc)?;
-        items.push(Field { name, sort })?;
-        Ok((before.is_some(), NamedFields { items, names }))
-    }
-
-    fn into_items(self) -> Items<Field>
-        ensures { result ≡ self }
-    {
-        self.items
-    }
-}
 
 /// The fields of a record so far, whether all have a type, and whether nothing else is wrong with them.
 #[derive(Drop)]
 pub struct Fields {
-    pub list: NamedFields,
+    pub list: lil_types::Fields,
     pub typed: bool,
     pub right: bool,
 }
@@ -83,7 +27,7 @@ impl Fields {
         ensures { result ≡ spec.no_fields }
     {
         Fields {
-            list: NamedFields::new(alloc),
+            list: lil_types::Fields::new(alloc),
             typed: true,
             right: true,
         }
@@ -104,7 +48,7 @@ fn typed_still(typed: bool, sort: Option<TypeId>) -> bool
 }
 
 /// A field more: that is fault 21, where its name stands before.
-#[tactic(auto, unfolding(crate::specs::Records::field_step, lil_report::specs::Told::tell))]
+#[tactic(auto, using(crate::proofs::FieldNames::has_found), unfolding(crate::specs::Records::field_step, lil_report::specs::Told::tell))]
 fn add_field(
     alloc: Global,
     report: &mut Report,
@@ -114,8 +58,8 @@ fn add_field(
 ) -> Result<(), Memory>
     ensures { IfOk result (λ o. Said (spec.field_step sort fields.old of.now) report.old fields.new report.new) }
 {
-    let list = std::mem::replace(&mut fields.list, NamedFields::new(alloc));
-    let (twice, list) = list.with(alloc, of, sort_or(sort))?;
+    let list = std::mem::replace(&mut fields.list, lil_types::Fields::new(alloc));
+    let (twice, list) = list.with(alloc, &of.name, sort_or(sort))?;
     fields.list = list;
     fields.typed = typed_still(fields.typed, sort);
     fields.right = fields.right && !twice;
@@ -203,7 +147,7 @@ fn record_form(fields: Fields) -> Option<TypeForm>
     ensures { result ≡ spec.record_form fields }
 {
     if fields.typed {
-        Some(TypeForm::Record(fields.list.into_items()))
+        Some(TypeForm::Record(fields.list))
     } else {
         None
     }

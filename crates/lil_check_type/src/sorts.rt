@@ -7,12 +7,12 @@ use crate::made::{add_form, add_type};
 use crate::records::{Fields, add_fields, add_record, end_labels, tag, variant_labels};
 use crate::routines::procedure;
 use crate::simple::{index, set, simple};
-use lil_base::{FaultKind, Memory, Place};
+use lil_base::{Memory, Place};
 use lil_language::{FieldList, Simple, Sort, Variant};
 use lil_report::Report;
 use lil_scope::{Env, Thing, Wait, is_later};
 use lil_text::Ident;
-use lil_types::{PROC, PROCESS, TypeForm, TypeId};
+use lil_types::{PROCESS, TypeForm, TypeId};
 use std::alloc::Global;
 
 /// The index types of an array.
@@ -78,13 +78,7 @@ fn target_so_far(of: Option<Thing>) -> TypeId
     ensures { result ≡ spec.target_so_far of }
 {
     match of {
-        Some(Thing::Type(sort)) => {
-            if sort == PROC || sort == PROCESS {
-                0
-            } else {
-                sort
-            }
-        }
+        Some(Thing::Type(sort)) if sort != PROCESS => sort,
         _ => 0,
     }
 }
@@ -147,7 +141,7 @@ fn bare(of: &Sort) -> Option<&Ident>
 
 /// What a type means: its number, None where something in it is wrong.
 #[cycle(sorts)]
-#[tactic(auto, using(crate::proofs::Forms::sort_steps), unfolding(lil_check_value::specs::Looks::not_built, lil_report::specs::Told::after, lil_report::specs::Told::tell))]
+#[tactic(auto, using(crate::proofs::Forms::sort_steps), unfolding(lil_report::specs::Told::after, lil_report::specs::Told::tell))]
 pub fn sort(
     alloc: Global,
     env: &mut Env,
@@ -174,7 +168,6 @@ pub fn sort(
             Ok(sort)
         }
         Sort::ProcedureOf(place, formals, outcome) => {
-            report.note(true, *place, FaultKind::NotBuilt);
             procedure(alloc, env, report, *place, formals.as_slice(), outcome)
         }
     }

@@ -8,7 +8,7 @@ use Rattle.lil_report.specs.{declared.report.Fault.Fault, Least.{is_late, now_of
 use Rattle.lil_language.specs.declared.{unit.{Unit.Unit as Tree, Decl.Decl}, tree.Stmt.Stmt}
 use Rattle.lil_resolved.specs.{Kinds.{Shape, Outline, Scope, all_words, outermost, procedure_by}, Resolved.{Procedure, Resolved, outline_of}, Sound.{IsSound, IsSoundBody}, Views.statements_of, declared.resolved.RStmt.RStmt}
 use Rattle.lil_declared.specs.declared.declared.{RProc.RProc, RVar.RVar}
-use Rattle.lil_shapes.specs.{ListLaws.AllFine, Pointers.targets, Shaping.variables_by}
+use Rattle.lil_shapes.specs.{ListLaws.AllFine, Pointers.targets, Shaping.variables_by, Signatures.signatures}
 use Rattle.lil_shapes.specs.Shaping as shaping
 use Rattle.lil_forms.specs.{Scopes.{Fits, outside}, StatementSound.{AllSound, body_sound}, Variables.seen_in}
 use Rattle.lil_scope.specs.{declared.env.Env.Env, Names.{around_of, chain_by, chain, inside, entered, locals_in}}
@@ -94,7 +94,7 @@ module _ (e : Env) (d : Declared e) (settled : e.waits ≡ []) (shapes ts : List
   locals = locals_laid shapes e.locals
 
   abbrev scope : List ℕ → Scope
-  scope chain = outermost (targets e.types shapes) ts (outlines e.types locals 0 e.procedures) (map up chain)
+  scope chain = outermost (targets e.types shapes) (signatures e.types shapes) ts (outlines e.types locals 0 e.procedures) (map up chain)
 
   -- a procedure by its number
   abbrev BodyRight : ℕ → Option (List RStmt) → Type 0
@@ -164,7 +164,7 @@ module _ (e : Env) (d : Declared e) (settled : e.waits ≡ []) (shapes ts : List
             ∙ ap (λ (c : Bool). if c then Some m else None) fits,
         record {
           few = omega (arith, made_many e.types locals 0 e.procedures bs ps.0 ps.1, d.told.homed.few);
-          body = subst (λ (xs : List Outline). IsSoundBody (outermost (targets e.types shapes) ts xs []) false (statements_of ss)) (sym same) (body_sound (scope []) false ss sound);
+          body = subst (λ (xs : List Outline). IsSoundBody (outermost (targets e.types shapes) (signatures e.types shapes) ts xs []) false (statements_of ss)) (sym same) (body_sound (scope []) false ss sound);
           procedures = procedures ps.0 ps.1 same;
         },
       )
@@ -173,14 +173,14 @@ module _ (e : Env) (d : Declared e) (settled : e.waits ≡ []) (shapes ts : List
       at_number_of n body is = let same : 0 + n ≡ n = omega arith in subst (λ (k : ℕ). BodyRight k (Some body)) same (body_at BodyRight 0 bs n (Some body) bodies is)
 
       procedures : (ps : List Procedure) → procedures_from e.types locals 0 e.procedures bs ≡ Some ps → map outline_of ps ≡ outlines e.types locals 0 e.procedures → (p : ℕ) (its : Procedure) → procedure_by ps p ≡ Some its
-          → IsSoundBody (outermost (targets e.types shapes) ts (map outline_of ps) (p ∷ its.around)) false its.body
+          → IsSoundBody (outermost (targets e.types shapes) (signatures e.types shapes) ts (map outline_of ps) (p ∷ its.around)) false its.body
       procedures ps made same zero its is = absurd (none-some its is)
       procedures ps made same (suc n) its is =
           let m = made_at e.types locals 0 e.procedures bs ps made n its is in
           let next : up n ≡ suc n = omega arith in
-          subst (λ (p : Procedure). IsSoundBody (outermost (targets e.types shapes) ts (map outline_of ps) (suc n ∷ p.around)) false p.body) (sym m.is)
-          (subst (λ (xs : List Outline). IsSoundBody (outermost (targets e.types shapes) ts xs (suc n ∷ map up m.of.around)) false (statements_of m.body)) (sym same)
-          (subst (λ (c : List ℕ). IsSoundBody (outermost (targets e.types shapes) ts (outlines e.types locals 0 e.procedures) c) false (statements_of m.body)) (λ i. next i ∷ map up (around_of (m.there i)))
+          subst (λ (p : Procedure). IsSoundBody (outermost (targets e.types shapes) (signatures e.types shapes) ts (map outline_of ps) (suc n ∷ p.around)) false p.body) (sym m.is)
+          (subst (λ (xs : List Outline). IsSoundBody (outermost (targets e.types shapes) (signatures e.types shapes) ts xs (suc n ∷ map up m.of.around)) false (statements_of m.body)) (sym same)
+          (subst (λ (c : List ℕ). IsSoundBody (outermost (targets e.types shapes) (signatures e.types shapes) ts (outlines e.types locals 0 e.procedures) c) false (statements_of m.body)) (λ i. next i ∷ map up (around_of (m.there i)))
           (body_sound (scope (chain_by e.procedures (Some n))) false m.body (at_number_of n m.body m.body_there))))
 
 at_most : (n : ℕ) → nat_lt 32000 n ≡ false → n ≤ 32000

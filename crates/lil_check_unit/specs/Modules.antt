@@ -7,7 +7,7 @@ use Rattle.lil_scope.specs.{Names.locals_in, declared.env.Env.Env}
 use Rattle.lil_kinds.specs.Forms.{arity, result}
 use Rattle.lil_forms.specs.Values.{returned}
 use Rattle.lil_check_stmt.specs.declared.stmt.Stated.{Stated}
-use Rattle.lil_shapes.specs.{Measured.variable_name, Pointers.targets, Shaping.{all_some, lying, shapes, variables_by}}
+use Rattle.lil_shapes.specs.{Measured.variable_name, Pointers.targets, Shaping.{all_some, lying, shapes, variables_by}, Signatures.signatures}
 
 -- the statements of a block stand in no WITH
 abbrev pub in_no_with : Env → Env
@@ -55,7 +55,7 @@ procedures_from t locals p _ _ = None
 -- by the types, the variables of the module, the procedures and their variables
 module _ (t : Table) (vs : List RVar) (qs : List RProc) (ls : List (List RVar)) where
   abbrev pub module_with : List ℕ → (types variables : List Shape) → List Procedure → Statements → Resolved
-  module_with n types ts ps ss = record { name = n; targets = targets t types; names = map variable_name vs; variables = ts; procedures = ps; body = ss }
+  module_with n types ts ps ss = record { name = n; targets = targets t types; signatures = signatures t types; names = map variable_name vs; variables = ts; procedures = ps; body = ss }
 
   -- where its variables lie, and its strings behind them
   abbrev pub with_variables : List ℕ → List Shape → Option (List Shape) → List Procedure → List RStmt → Option Resolved

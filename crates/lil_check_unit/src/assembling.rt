@@ -13,7 +13,7 @@ use lil_declared::{RProc, RVar};
 use lil_kinds::{arity, result};
 use lil_resolved::{RHeading, RKind, RModule, RProcedure, RStmt};
 use lil_scope::{Env, Locals};
-use lil_shapes::{Laid, Shaped, all_shapes, all_targets, kind_at, lay, lay_locals};
+use lil_shapes::{Laid, Shaped, all_shapes, all_signatures, all_targets, kind_at, lay, lay_locals};
 use lil_types::TypeTable;
 use std::alloc::Global;
 
@@ -128,10 +128,12 @@ fn named(
 {
     let name = name.copy(alloc)?;
     let targets = all_targets(alloc, &declared.types, &types)?;
+    let signatures = all_signatures(alloc, &declared.types, &types)?;
     Ok(RModule {
         name,
         shapes: types.shapes,
         targets,
+        signatures,
         variables: laid.variables,
         words: laid.words,
         procedures,

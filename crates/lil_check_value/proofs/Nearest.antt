@@ -2,8 +2,8 @@
 use Rattle.std.proofs.Common.{◌≡◌, ℕ, ◌+◌, Bool, true, false, ◌||◌, List, [], ◌∷◌, Option, Some, None, refl, sym, ap, nat_eq, ◌∙◌}
 use Rattle.std.specs.List.{list_any}
 use Rattle.std.proofs.lemmas.Bool.Decides.{Decides-eqb}
-use Rattle.lil_types.specs.Types.{Table}
-use Rattle.lil_kinds.specs.{Forms.field, declared.forms.FieldAt.FieldAt}
+use Rattle.lil_types.specs.{Types.Table, declared.fields.FieldAt.FieldAt}
+use Rattle.lil_kinds.specs.Forms.{field}
 use Rattle.lil_check_value.specs.{declared.names.Looked.Looked, Looks.{nearer, in_withs}}
 
 later_one : (a b : Bool) → a ≡ false → (a || b) ≡ true → b ≡ true

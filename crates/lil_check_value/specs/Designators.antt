@@ -5,7 +5,7 @@ use Rattle.lil_report.specs.Told.{Row, row}
 use Rattle.lil_scope.specs.{declared.{thing.{Kind.Kind, Routine.Routine, Thing.Thing, Variable.Variable}, env.Env.Env}, Names.{member, waits_for, levels_out}}
 use Rattle.lil_scope.specs.declared.thing.Kind.TheVariants as k
 use Rattle.lil_scope.specs.declared.thing.Thing.TheVariants as t
-use Rattle.lil_kinds.specs.{declared.{found.{Form.Form, Found.Found, Located.Located, Standing.Standing}, forms.{ArrayParts.ArrayParts, FieldAt.FieldAt}}, Forms.{array_parts, field, is_record, target, is_opaque}, Kinds.{assignable, misses}}
+use Rattle.lil_kinds.specs.{declared.{found.{Form.Form, Found.Found, Located.Located, Standing.Standing}, forms.ArrayParts.ArrayParts}, Forms.{array_parts, field, is_record, target, is_opaque}, Kinds.{assignable, misses}}
 use Rattle.lil_kinds.specs.declared.found.Form.TheVariants as form
 use Rattle.lil_kinds.specs.declared.found.Standing.TheVariants as standing
 use Rattle.lil_call.specs.declared.call.{Callee.Callee, Argument.Argument}
@@ -15,11 +15,11 @@ use Rattle.lil_operators.specs.Operations.{Meaning, plain_found, constant_found,
 use Rattle.lil_check_value.specs.{declared.{designators.{Part.Part, Named.Named, Reached.Reached}, names.Looked.{Looked, TheVariants.{Nothing, Field, Thing as Declared}}}, Looks.{look, looked_as, is_nothing, is_hidden, is_built_name}}
 use Rattle.lil_check_value.specs.declared.designators.Reached.TheVariants as reached
 use Rattle.lil_text.specs.declared.tree.Ident.{Ident}
-use Rattle.lil_types.specs.Types.{Table, cardinal, char}
+use Rattle.lil_types.specs.{Types.{Table, cardinal, char}, declared.fields.FieldAt.FieldAt}
 use Rattle.lil_declared.specs.declared.declared.Mode.{Mode}
 use Rattle.lil_declared.specs.declared.declared.Mode.TheVariants as mode
 use Rattle.lil_forms.specs.Places as places
-use Rattle.lil_forms.specs.{Places.{located_form, located_in, variable_at, held_at}, Variables.{named_at, seen}}
+use Rattle.lil_forms.specs.{Places.{located_form, located_in, variable_at, held_at}, Values.own, Variables.{named_at, seen}}
 use Rattle.lil_resolved.specs.declared.resolved.RNamed.{RNamed}
 
 abbrev pub Reaches : Type 0
@@ -253,12 +253,9 @@ no_value (t.Resident x s) = true
 no_value (t.Standard x) = true
 no_value _ = false
 
-abbrev pub is_procedure : Thing → Bool
-is_procedure (t.Procedure x) = true
-is_procedure _ = false
-
+-- a procedure by its number
 abbrev pub routine_found : Place → Routine → Option Found
-routine_found p x = if nat_lt 1 x.level then None else Some (constant_found p (k.Routine x.sort))
+routine_found p x = if nat_lt 1 x.level then None else Some (plain_found p (form.Routine x.number) (k.Routine x.sort))
 
 -- the text of a constant by its number among those of all constants
 abbrev pub text_form : Option (List ℕ) → Form
@@ -278,9 +275,7 @@ named_value texts o = (
   -- 24 WrongKind
   row (is_misplaced o.thing) o.name WrongKind
       -- 41 ProcValue
-      ∷ row (no_value o.thing) o.name ProcValue
-      -- 90 NotBuilt: the value of a procedure
-      ∷ row (is_procedure o.thing) o.name NotBuilt ∷ [],
+      ∷ row (no_value o.thing) o.name ProcValue ∷ [],
 )
 
 abbrev pub value_node : List (List ℕ) → Option Reached → Meaning
@@ -296,9 +291,10 @@ variable_node (Some (reached.Part a)) = (Some (part_found a), [])
 variable_node (Some (reached.Other o)) = (None, row true o.name WrongKind ∷ [])
 
 -- ---- what is called
-abbrev pub part_callee : Kind → Part → Callee
-part_callee (k.Of s) a = callee.Variable s a.depth
-part_callee _ a = callee.Other
+-- the value of a variable or of a part of one
+abbrev pub part_callee : Table → Kind → Part → Callee
+part_callee types (k.Of s) a = callee.Variable s a.depth (own types a.form)
+part_callee types _ a = callee.Other
 
 abbrev pub thing_callee : Env → Thing → Option Callee
 thing_callee e (t.Procedure x) = Some (callee.Procedure x.sort x.number (levels_out e x.level))
@@ -311,7 +307,7 @@ thing_callee e _ = None
 
 abbrev pub callee_node : Env → Option Reached → Option Callee × List Row
 callee_node e None = (None, [])
-callee_node e (Some (reached.Part a)) = (Some (part_callee a.kind a), [])
+callee_node e (Some (reached.Part a)) = (Some (part_callee e.types a.kind a), [])
 -- 24 WrongKind
 callee_node e (Some (reached.Other o)) = (thing_callee e o.thing, row (is_misplaced o.thing) o.name WrongKind ∷ [])
 

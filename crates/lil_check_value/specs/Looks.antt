@@ -4,9 +4,9 @@ use Rattle.std.proofs.Common.{◌∙◌, ap}
 use Rattle.lil_base.specs.declared.fault.{Place.Place, FaultKind.TheVariants.{NotBuilt, WrongKind, Unknown, NotExported}}
 use Rattle.lil_report.specs.{declared.report.Fault.Fault, Told.{Row, row, noted, tell, Said, after}}
 use Rattle.lil_text.specs.declared.tree.{Qualident.Qualident, Ident.Ident}
-use Rattle.lil_types.specs.Types.{Table, bit_set}
+use Rattle.lil_types.specs.{Types.{Table, bit_set}, declared.fields.FieldAt.FieldAt}
 use Rattle.lil_scope.specs.{declared.{env.Env.Env, thing.Thing.Thing}, Built.built, Names.{find, member}}
-use Rattle.lil_kinds.specs.{Forms.{set_base, field}, declared.forms.FieldAt.FieldAt}
+use Rattle.lil_kinds.specs.Forms.{set_base, field}
 use Rattle.lil_scope.specs.declared.thing.Thing.TheVariants as t
 use Rattle.lil_check_value.specs.declared.names.Looked.{Looked, TheVariants.{Nothing, Field, Thing as Declared}}
 

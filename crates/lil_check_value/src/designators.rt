@@ -7,14 +7,14 @@ use lil_base::{FaultKind, Memory, Name, Place};
 use lil_declared::Mode;
 use lil_forms::{element_of, held_at, located_form, located_in, named_at, seen, variable_at};
 use lil_kinds::{
-    ArrayParts, FieldAt, Form, Found, Located, Standing, array_parts, assignable, field, is_opaque,
+    ArrayParts, Form, Found, Located, Standing, array_parts, assignable, field, is_opaque,
     is_record, misses, target,
 };
 use lil_operators::raised;
 use lil_report::Report;
 use lil_scope::{Env, Kind, Thing, Variable, find_in, waits_for};
 use lil_text::Ident;
-use lil_types::{CARDINAL, CHAR, TypeId, TypeTable};
+use lil_types::{CARDINAL, CHAR, FieldAt, TypeId, TypeTable};
 use std::alloc::Global;
 
 /// A variable or a part of one: where the designator begins, where its last name stands, the form of what it names, whether nothing is selected, what is known of its value, its depth, and whether it is a character of an array.

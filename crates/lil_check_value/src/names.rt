@@ -3,11 +3,11 @@ ghost use Rattle.lil_report.specs.Told.{Said};
 ghost use Rattle.lil_check_value.specs.Looks as spec;
 
 use lil_base::{FaultKind, Name, Place};
-use lil_kinds::{FieldAt, field};
+use lil_kinds::field;
 use lil_report::Report;
 use lil_scope::{Env, Thing, find_in, is_built};
 use lil_text::{Ident, Qualident};
-use lil_types::{TypeId, TypeTable};
+use lil_types::{FieldAt, TypeId, TypeTable};
 
 /// What a name means where it stands: a field of the record of a WITH around it, by the number of the WITH, the field's
 /// number and its type; what is declared of it; or nothing.

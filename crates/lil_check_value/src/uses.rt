@@ -5,11 +5,12 @@ ghost use Rattle.lil_check_value.specs.Designators as spec;
 use crate::designators::{Named, Part, Reached, is_misplaced};
 use lil_base::{FaultKind, Items, Memory, Place, Shared, Text};
 use lil_call::{Argument, Callee};
+use lil_forms::own;
 use lil_kinds::{Form, Found};
 use lil_operators::{constant_found, plain_found};
 use lil_report::Report;
 use lil_scope::{Env, Kind, Routine, Thing, levels_out};
-use lil_types::TypeId;
+use lil_types::{TypeId, TypeTable};
 
 fn part_found(of: Part) -> Found
     ensures { result ≡ spec.part_found of }
@@ -34,19 +35,15 @@ fn no_value(of: Thing) -> bool
     }
 }
 
-fn is_procedure(of: Thing) -> bool
-    ensures { result ≡ spec.is_procedure of }
-{
-    matches!(of, Thing::Procedure(_))
-}
-
+/// A procedure by its number, where no other one declares it.
 fn routine_found(first: Place, of: Routine) -> Option<Found>
     ensures { result ≡ spec.routine_found first of }
 {
     if of.level > 1 {
         None
     } else {
-        Some(constant_found(first, Kind::Routine(of.sort)))
+        let form = Form::Routine(of.number);
+        Some(plain_found(first, form, Kind::Routine(of.sort)))
     }
 }
 
@@ -90,7 +87,6 @@ fn named_value(
 {
     report.note(is_misplaced(of.thing), of.name, FaultKind::WrongKind);
     report.note(no_value(of.thing), of.name, FaultKind::ProcValue);
-    report.note(is_procedure(of.thing), of.name, FaultKind::NotBuilt);
     let found = thing_found(texts, of.first, of.thing)?;
     Ok(found)
 }
@@ -126,12 +122,16 @@ pub(crate) fn variable_node(report: &mut Report, of: Option<Reached>) -> Option<
     }
 }
 
-fn part_callee(of: Part) -> Callee
-    ensures { result ≡ spec.part_callee of.kind of }
+/// The value of a variable or of a part of one.
+fn part_callee(types: &TypeTable, of: Part) -> Callee
+    ensures { result ≡ spec.part_callee types.now of.kind of }
 {
     match of.kind {
-        Kind::Of(sort) => Callee::Variable(sort, of.depth),
-        _ => Callee::Other,
+        Kind::Of(sort) => Callee::Variable(sort, of.depth, own(types, of.form)),
+        _ => {
+            drop(of);
+            Callee::Other
+        }
     }
 }
 
@@ -159,7 +159,7 @@ pub(crate) fn callee_node(env: &Env, report: &mut Report, of: Option<Reached>) -
 {
     match of {
         None => None,
-        Some(Reached::Part(part)) => Some(part_callee(part)),
+        Some(Reached::Part(part)) => Some(part_callee(&env.types, part)),
         Some(Reached::Other(named)) => {
             report.note(is_misplaced(named.thing), named.name, FaultKind::WrongKind);
             thing_callee(env, named.thing)

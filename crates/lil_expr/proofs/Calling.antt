@@ -1,11 +1,11 @@
 -- The code of calls, argument by argument.
 use Rattle.std.proofs.Common.{◌≡◌, ℕ, ◌+◌, ◌-◌, ◌%◌, ◌<◌, min, Bool, true, List, [], ◌∷◌, ◌++◌, length, take, get_or, Some, ◌⊎◌, inl, inr, refl, sym, ap, ◌∙◌, subst, arith, append-nil, append_assoc}
 use Rattle.lil_resolved.specs.declared.resolved.RArgument.TheVariants as r
-use Rattle.lil_resolved.specs.{declared.resolved.{RArgument.RArgument, RExpr.RExpr, RKind.RKind, ROpening.ROpening, RPlace.RPlace}, Kinds.{Kind, Scope, words}, Resolved.{Invoke, Argument, ByValue, OfPlace, OfAll, OfArray, OfText, OfOpened, Arguments}, Views.{argument_of, arguments_of, expression_of, place_of, kind_view, is_copied, by_value_is, of_place_is, of_array_is, of_text_is, of_opened_is}, Sizes.{words_of, argument_words, argument_strings, arguments_strings}, Sound.{IsSoundArgument, AreSoundArguments}}
-use Rattle.lil_asm.specs.declared.instr.Instr.TheVariants.{Lag, Liw, Mrk, Psh, Cll, Sav, Rst}
-use Rattle.lil_table.specs.Rows.{IsAt, InstrsAt, ArgumentAt, PushedRow, given_words, second_code, text_words}
+use Rattle.lil_resolved.specs.{declared.resolved.{RArgument.RArgument, RExpr.RExpr, RKind.RKind, ROpening.ROpening, RPlace.RPlace}, Kinds.{Kind, Scope, words}, Resolved.{Expression, Invoke, InvokeValue, Argument, ByValue, OfPlace, OfAll, OfArray, OfText, OfOpened, Spelled, Arguments}, Views.{argument_of, arguments_of, expression_of, place_of, kind_view, is_copied, by_value_is, of_place_is, of_array_is, of_text_is, of_opened_is, spelled_is}, Sizes.{words_of, argument_words, argument_strings, arguments_strings}, Sound.{IsSoundArgument, AreSoundArguments}}
+use Rattle.lil_asm.specs.declared.instr.Instr.TheVariants.{Lag, Liw, Mrk, Mrf, Psh, Cll, Clf, Sav, Rst}
+use Rattle.lil_table.specs.Rows.{IsAt, InstrsAt, ArgumentAt, PushedAt, given_words, second_code, text_words}
 use Rattle.lil_labels.specs.{Drafts.{Draft, Final, Adds, Emits, Saying, Doing, DoingAll}, Emitting.{emits_then, emits_as, adds_as, take_next}}
-use Rattle.lil_expr.specs.{Strings.emits_end, Generating.{Value}, Calling.{Argued, PushedAt, Pushed, GivenAll, Given, Called}}
+use Rattle.lil_expr.specs.{Strings.emits_end, Generating.{Value}, Calling.{Argued, PushedOne, Pushed, GivenAll, Given, Called, ValueCalled, Valued, Saved}}
 
 -- ---- the words of an argument
 pub text_argued : (calls : Bool) (cs : List ℕ) (offset high : ℕ) (a b c d : Draft) → high ≡ (length cs - 1) % 65536 → Adds (words_of cs) a b (Saying cs offset) → Emits b c (Doing (λ word. Lag offset)) → Emits c d (DoingAll (second_code calls (Liw high)))
@@ -34,6 +34,7 @@ IsWords (OfAll d) = ⊥
 IsWords (OfArray copied d high) = Unit {0}
 IsWords (OfText cs) = Unit {0}
 IsWords (OfOpened copied n i) = Unit {0}
+IsWords (Spelled cs count) = ⊥
 
 words_at : (a : Argument) (x : Final) (p m q : ℕ) → IsWords a → Argued true a x p m → IsAt x.code m Psh q → Pushed (argument_words a) a x p q
 words_at (ByValue k e) x p m q words here push sound = record { row = record { middle = m; here = here 0 sound (omega arith); push = push }; words = refl }
@@ -42,6 +43,7 @@ words_at (OfAll d) x p m q words here push sound = absurd words
 words_at (OfArray copied d high) x p m q words here push sound = record { row = record { middle = m; here = here 0 sound (omega arith); push = push }; words = refl }
 words_at (OfText cs) x p m q words here push sound = record { row = record { middle = m; here = here 0 sound (omega arith); push = push }; words = refl }
 words_at (OfOpened copied n i) x p m q words here push sound = record { row = record { middle = m; here = here 0 sound (omega arith); push = push }; words = refl }
+words_at (Spelled cs count) x p m q words here push sound = absurd words
 
 words_pushed : {us : List ℕ} (g h : Argument) (a b c : Draft) → g ≡ h → IsWords h → Adds us a b (Argued true g) → Emits b c (Doing (λ w. Psh)) → Adds us a c (Pushed (argument_words h) g)
 words_pushed {us = us} g h a b c is words argued by =
@@ -58,15 +60,24 @@ pair_pushed g a b c (inl v) argued by = words_pushed (argument_of g) (OfArray (i
 pair_pushed g a b c (inr (inl v)) argued by = words_pushed (argument_of g) (OfText v.0) a b c (ap argument_of v.1 ∙ of_text_is v.0) tt argued by
 pair_pushed g a b c (inr (inr v)) argued by = words_pushed (argument_of g) (OfOpened (is_copied v.0) v.1 v.2) a b c (ap argument_of v.3 ∙ of_opened_is v.0 v.1 v.2) tt argued by
 
+-- a string for an array by value
+pub spelled_pushed : {us : List ℕ} (g : RArgument) (cs : List ℕ) (count : ℕ) (a b : Draft) → g ≡ r.Spelled cs count
+    → Adds us a b (Argued true (argument_of g)) → Adds us a b (Pushed count (argument_of g))
+spelled_pushed {us = us} g cs count a b is argued =
+    let same = ap argument_of is ∙ spelled_is cs count in
+    let string = subst (λ (g : Argument). Adds us a b (Argued true g)) same argued in
+    subst (λ (g : Argument). Adds us a b (Pushed count g)) (sym same)
+    (emits_as a b _ (Pushed count (Spelled cs count)) (λ x t sound. record { row = t 0 sound (omega arith); words = omega arith }) string)
+
 -- ---- all arguments
 -- what stands before the next one
 sound_parts : (ts : Scope) (xs : List RArgument) (y : RArgument) → AreSoundArguments ts (arguments_of (xs ++ y ∷ [])) → AreSoundArguments ts (arguments_of xs) × IsSoundArgument ts (argument_of y)
 sound_parts ts [] y sound = (tt, sound.0)
 sound_parts ts (g ∷ xs) y sound = let rest = sound_parts ts xs y sound.1 in ((sound.0, rest.0), rest.1)
 
-given_more : (xs : List RArgument) (y : RArgument) (x : Final) (p m q v w : ℕ) → GivenAll v (arguments_of xs) x p m → PushedAt w (argument_of y) x m q → GivenAll (min (v + w) 65535) (arguments_of (xs ++ y ∷ [])) x p q
+given_more : (xs : List RArgument) (y : RArgument) (x : Final) (p m q v w : ℕ) → GivenAll v (arguments_of xs) x p m → PushedOne w (argument_of y) x m q → GivenAll (min (v + w) 65535) (arguments_of (xs ++ y ∷ [])) x p q
 given_more [] y x p m q v w h t = record {
-  row = record { middle = q; here = subst (λ (p : ℕ). PushedRow x.layout x.code (argument_of y) (ArgumentAt x.layout x.code true 0 (argument_of y)) p q) (sym h.row) t.row; then = refl };
+  row = record { middle = q; here = subst (λ (p : ℕ). PushedAt x.layout x.code (argument_of y) (ArgumentAt x.layout x.code true 0 (argument_of y)) p q) (sym h.row) t.row; then = refl };
   words = omega (arith, h.words, t.words);
 }
 given_more (g ∷ xs) y x p m q v w h t =
@@ -114,8 +125,51 @@ call_emitted p levels words given a b c d mark arguments call =
     })
     (emits_then a b d _ _ mark (emits_end b c d _ _ arguments call))
 
-pub invoke_emitted : {us : List ℕ} (p levels : ℕ) (k : Kind) (given : Arguments) (a b c d : Draft) → Emits a b (Doing (λ w. Sav)) → Adds us b c (Called p levels given) → Emits c d (Doing (λ w. Rst 1)) → Adds us a d (Value (Invoke p levels k given))
-invoke_emitted p levels k given a b c d save call restore =
-    emits_as a d _ (Value (Invoke p levels k given))
-    (λ x t sound. record { saved = length b.bytes; end = length c.bytes; save = t.0; call = t.1.0 (Some k) sound.0 sound.1 sound.2 sound.3; restore = t.1.1 })
+pub value_call_emitted : {us : List ℕ} (words : ℕ) (given : Arguments) (a b c d : Draft) → Emits a b (Doing (λ w. Mrf))
+    → Adds us b c (Given words given) → Emits c d (Doing (λ w. Clf words)) → Adds us a d (ValueCalled given)
+value_call_emitted words given a b c d mark arguments call =
+    emits_as a d _ (ValueCalled given)
+    (λ x t e result callee sound.
+    let all = t.1.0 sound in
+    record {
+      number = callee.number;
+      kind = callee.kind;
+      known = callee.known;
+      start = length b.bytes;
+      middle = length c.bytes;
+      mark = t.0;
+      arguments = all.row;
+      call = subst (λ (w : ℕ). IsAt x.code (length c.bytes) (Clf w) (length d.bytes)) all.words t.1.1;
+    })
+    (emits_then a b d _ _ mark (emits_end b c d _ _ arguments call))
+
+-- ---- a call of a function
+pub invoke_saved : {us : List ℕ} (p levels : ℕ) (k : Kind) (given : Arguments) (a b : Draft) → Adds us a b (Called p levels given)
+    → Adds us a b (Saved (Invoke p levels k given))
+invoke_saved p levels k given a b =
+    emits_as a b _ (Saved (Invoke p levels k given))
+    (λ x t before behind save restore sound. record {
+      saved = length a.bytes;
+      end = length b.bytes;
+      save = save;
+      its = t (Some k) sound.0 sound.1 sound.2 sound.3;
+      restore = restore;
+    })
+
+pub invoke_value_saved : {us : List ℕ} (e : Expression) (k : Kind) (given : Arguments) (a b : Draft) → Adds us a b (Valued e given)
+    → Adds us a b (Saved (InvokeValue e k given))
+invoke_value_saved e k given a b =
+    emits_as a b _ (Saved (InvokeValue e k given))
+    (λ x t before behind save restore sound. record {
+      saved = length a.bytes;
+      end = length b.bytes;
+      save = save;
+      its = t (Some k) sound.0 sound.1 sound.2;
+      restore = restore;
+    })
+
+pub saved_emitted : {us : List ℕ} (e : Expression) (a b c d : Draft) → Emits a b (Doing (λ w. Sav)) → Adds us b c (Saved e)
+    → Emits c d (Doing (λ w. Rst 1)) → Adds us a d (Value e)
+saved_emitted e a b c d save call restore =
+    emits_as a d _ (Value e) (λ x t. t.1.0 (length a.bytes) (length d.bytes) t.0 t.1.1)
     (emits_then a b d _ _ save (emits_end b c d _ _ call restore))

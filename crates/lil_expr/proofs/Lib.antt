@@ -5,4 +5,5 @@ pub mod Sets
 pub mod Tables
 pub mod Placing
 pub mod Opens
+pub mod Spelling
 pub mod Calling

@@ -1,16 +1,17 @@
 //! The code of calls, and of arguments.
 
-ghost use Rattle.std.specs.Prelude.{Bool, IfOk, OnOk};
-ghost use Rattle.lil_resolved.specs.{Resolved.OfOpened, Sizes.{argument_strings, arguments_strings, place_strings}, Views.{argument_of, arguments_of, place_of}};
+ghost use Rattle.std.specs.Prelude.{◌≡◌, Bool, true, IfOk, OnOk};
+ghost use Rattle.lil_resolved.specs.{Resolved.OfOpened, Sizes.{argument_strings, arguments_strings, expression_strings, place_strings}, Views.{argument_of, arguments_of, expression_of, place_of}};
 ghost use Rattle.lil_labels.specs.Drafts.{Adds, Emits};
-ghost use Rattle.lil_expr.specs.Calling.{Argued, Blocked, Called, Given, Pushed};
+ghost use Rattle.lil_expr.specs.{Calling.{Argued, Blocked, Called, ValueCalled, Saved, Given, Pushed}, Forms.is_call};
 
-use crate::expressions::{emit_address_of, emit_tested};
+use crate::expressions::{emit_address_of, emit_expression, emit_tested};
 use crate::opened::{emit_second, frame_load};
+use crate::spelled::emit_spelled;
 use lil_asm::Instr;
 use lil_base::Memory;
 use lil_labels::CodeBuffer;
-use lil_resolved::{RArgument, RNamed, RPlace};
+use lil_resolved::{RArgument, RExpr, RNamed, RPlace};
 
 /// Appends a call of a procedure that is declared so many levels out: the mark, the arguments, each of which goes to the
 /// frame that the mark begins, and the call itself. A frame that more words go to than a store has is never entered.
@@ -28,6 +29,35 @@ pub fn emit_call(
     code.put(Instr::Cll(procedure, words))
 }
 
+/// Appends what follows the value of a procedure that is called: the mark, the arguments, and the call itself.
+#[cycle(emitting)]
+pub fn emit_value_call(code: &mut CodeBuffer<'_>, given: &[RArgument]) -> Result<(), Memory>
+    ensures { OnOk result (Adds (arguments_strings (arguments_of given.now)) code.old code.new (ValueCalled (arguments_of given.now))) }
+{
+    code.put(Instr::Mrf)?;
+    let words = emit_given(code, given)?;
+    code.put(Instr::Clf(words))
+}
+
+/// Appends the call of a function, or the value of one and its call, which stands between what saves the words of the
+/// expression stack and what restores them.
+#[cycle(emitting)]
+pub(crate) fn emit_invoked(code: &mut CodeBuffer<'_>, e: &RExpr) -> Result<(), Memory>
+    requires { is_call e.now ≡ true }
+    ensures { OnOk result (Adds (expression_strings (expression_of e.now)) code.old code.new (Saved (expression_of e.now))) }
+{
+    match e {
+        RExpr::Invoke(procedure, levels, _, given) => {
+            emit_call(code, *procedure, *levels, given.as_slice())
+        }
+        RExpr::InvokeValue(value, _, given) => {
+            emit_expression(code, value.get())?;
+            emit_value_call(code, given.as_slice())
+        }
+        _ => unreachable!(),
+    }
+}
+
 /// Appends the code of the arguments of a call, and says how many words they take in the frame that it begins, up to 65,535.
 #[cycle(emitting)]
 fn emit_given(code: &mut CodeBuffer<'_>, given: &[RArgument]) -> Result<u16, Memory>
@@ -41,7 +71,7 @@ fn emit_given(code: &mut CodeBuffer<'_>, given: &[RArgument]) -> Result<u16, Mem
 }
 
 /// Appends the code of an argument, whose words go from the expression stack to the frame that a call begins, or all that lies
-/// at a place, and says how many words it takes there.
+/// at a place or the characters of a string, and says how many words it takes there.
 #[cycle(emitting)]
 fn emit_pushed(code: &mut CodeBuffer<'_>, argument: &RArgument) -> Result<u16, Memory>
     ensures { IfOk result (λ words. Adds (argument_strings (argument_of argument.now)) code.old code.new (Pushed words (argument_of argument.now))) }
@@ -58,11 +88,16 @@ fn emit_pushed(code: &mut CodeBuffer<'_>, argument: &RArgument) -> Result<u16, M
             code.put(Instr::Psh)?;
             Ok(2)
         }
+        // a string goes there with its address
+        RArgument::Spelled(_, count) => {
+            emit_argument(code, argument, true)?;
+            Ok(*count)
+        }
     }
 }
 
-/// Appends the code of an argument of a call or a request: a value and its test, the address of a place, or for an open array
-/// the address of its first element and the number of the last one.
+/// Appends the code of an argument of a call or a request: a value and its test, the address of a place, for an open array
+/// the address of its first element and the number of the last one, or all of a string for an array by value.
 #[cycle(emitting)]
 pub fn emit_argument(
     code: &mut CodeBuffer<'_>,
@@ -89,6 +124,7 @@ pub fn emit_argument(
             emit_second(code, calls, Instr::Liw(high))
         }
         RArgument::Opened(_, levels, number) => emit_handed_on(code, *levels, *number, calls),
+        RArgument::Spelled(text, count) => emit_spelled(code, text.get(), *count),
     }
 }
 

@@ -7,9 +7,9 @@ ghost use Rattle.lil_table.specs.Rows.{two_code, one_code, number_code, set_code
 ghost use Rattle.lil_labels.specs.Drafts.{DoingAll, Each, Adds, Emits};
 ghost use Rattle.lil_expr.specs.{Accesses.access_view, Generating.{Addressed, Found, Selecting, Value, Tested, Stored, Joining, Operating, aim_of, selector_part, member_part, operation_part}};
 
-use crate::calls::emit_call;
+use crate::calls::emit_invoked;
 use crate::functions::emit_function;
-use crate::numbers::constant_word;
+use crate::numbers::{constant_word, routine_word};
 use crate::opened::frame_load;
 use crate::places::{Access, Reached, emit_address, emit_load, further};
 use crate::ranges::{emit_test, least_word};
@@ -49,15 +49,16 @@ pub fn emit_expression(code: &mut CodeBuffer<'_>, e: &RExpr) -> Result<(), Memor
             emit_members(code, *kind, members.as_slice())
         }
         // what stands on the expression stack is saved until the call has returned
-        RExpr::Invoke(procedure, levels, _, given) => {
+        RExpr::Invoke(_, _, _, _) | RExpr::InvokeValue(_, _, _) => {
             code.put(Instr::Sav)?;
-            emit_call(code, *procedure, *levels, given.as_slice())?;
+            emit_invoked(code, e)?;
             code.put(Instr::Rst(1))
         }
         RExpr::High(levels, number) => {
             let opened = code.variable(RNamed::Level(*levels, *number));
             code.put(frame_load(*levels, opened.offset.saturating_add(1)))
         }
+        RExpr::Routine(procedure, _) => code.put(Instr::Liw(routine_word(*procedure))),
     }
 }
 
@@ -240,7 +241,8 @@ fn emit_two(code: &mut CodeBuffer<'_>, operator: TwoOp, base: RBase) -> Result<(
         | RBase::Character
         | RBase::Enumeration(_)
         | RBase::Pointer(_)
-        | RBase::Address => emit_cardinal(code, operator),
+        | RBase::Address
+        | RBase::Procedure(_) => emit_cardinal(code, operator),
     }
 }
 

@@ -2,7 +2,8 @@
 
 ghost use Rattle.std.specs.Prelude.{◌≡◌, ◌%◌, pos, ◌≤ℤ◌, true};
 ghost use Rattle.lil_base.specs.Words.{word_of};
-ghost use Rattle.lil_resolved.specs.{Kinds.{scalar_of, scalar_word, within}, Views.base_view};
+ghost use Rattle.lil_resolved.specs.{Kinds.{procedure_word, scalar_of, scalar_word, within}, Views.base_view};
+ghost use Rattle.lil_table.specs.Rows.{lone_number};
 
 use lil_resolved::RBase;
 
@@ -18,8 +19,18 @@ pub fn word_of_number(number: i32) -> u16
     number.rem_euclid(65536) as u16
 }
 
+/// The number of a program module, which is loaded alone.
+const LONE_NUMBER: u16 = 1;
+
+/// The word of a procedure of a program module as a value, by its number.
+pub(crate) fn routine_word(procedure: u8) -> u16
+    ensures { result ≡ procedure_word lone_number procedure }
+{
+    256 * LONE_NUMBER + u16::from(procedure)
+}
+
 /// The word of a constant of a base, by its number. That of a set has the numbers below 16 that are in the set, and that of
-/// NIL is 0.
+/// NIL and of no procedure is 0.
 #[tactic(auto, using(crate::proofs::Sets::low_word))]
 pub(crate) fn constant_word(base: RBase, number: i32) -> u16
     ensures { within (base_view base) (scalar_of (base_view base) number) ≡ true → result ≡ scalar_word (scalar_of (base_view base) number) }
@@ -28,6 +39,6 @@ pub(crate) fn constant_word(base: RBase, number: i32) -> u16
         RBase::Truth => u16::from(number != 0),
         RBase::Cardinal | RBase::Integer | RBase::Character | RBase::Enumeration(_) | RBase::Set =>
             word_of_number(number),
-        RBase::Pointer(_) | RBase::Address => 0,
+        RBase::Pointer(_) | RBase::Address | RBase::Procedure(_) => 0,
     }
 }

@@ -34,7 +34,7 @@ fn base_greatest(base: RBase) -> i32
         RBase::Truth => 1,
         RBase::Character => 255,
         RBase::Enumeration(count) => i32::from(count.saturating_sub(1)),
-        RBase::Pointer(_) | RBase::Address => 0,
+        RBase::Pointer(_) | RBase::Address | RBase::Procedure(_) => 0,
     }
 }
 

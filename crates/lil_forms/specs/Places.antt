@@ -26,6 +26,7 @@ located_in (form.Text cs) = None
 located_in (form.Located p) = Some p
 located_in (form.Open a) = None
 located_in (form.Value x) = None
+located_in (form.Routine n) = None
 
 -- an open array, which is a parameter of a procedure
 abbrev pub open_form : ROpening → ℕ → RNamed → Form
@@ -94,6 +95,7 @@ element_of t a (form.Text cs) = None
 element_of t a (form.Located p) = element_by t a p (array_at t p.sort)
 element_of t a (form.Open o) = element_along o (typed t cardinal a)
 element_of t a (form.Value x) = None
+element_of t a (form.Routine n) = None
 
 -- what a pointer points to
 abbrev pub target_by : Located → Option Target → Option Located

@@ -7,13 +7,14 @@ use Rattle.lil_types.specs.{Types.{Table, char}, declared.table.Parameter.Parame
 use Rattle.lil_declared.specs.declared.declared.RVar.{RVar}
 use Rattle.lil_kinds.specs.{Forms.{parameters, result}, declared.found.{Located.Located, OpenArray.OpenArray}}
 use Rattle.lil_resolved.specs.{Resolved.{kind_of, right_kind}, Kinds.{Kind, OfWhole}, Sizes.{place_depth, depth}, Sound.{takes_one, takes_value, stores_value, takes_function, is_element, is_text}, Views.{base_view, kind_view, function_of, expression_of, place_of}}
-use Rattle.lil_resolved.specs.declared.resolved.{RArgument.RArgument, RBase.RBase, RExpr.RExpr, RFunction.RFunction, RKind.RKind, RMember.RMember, RNamed.RNamed, ROperation.ROperation, RRoot.RRoot}
+use Rattle.lil_resolved.specs.declared.resolved.{RArgument.RArgument, RBase.RBase, RExpr.RExpr, RFunction.RFunction, RKind.RKind, RMember.RMember, RNamed.RNamed, ROperation.ROperation}
 use Rattle.lil_resolved.specs.declared.resolved.RArgument.TheVariants as given
+use Rattle.lil_resolved.specs.declared.resolved.RBase.TheVariants as b
 use Rattle.lil_resolved.specs.declared.resolved.RExpr.TheVariants as e
 use Rattle.lil_resolved.specs.declared.resolved.RMember.TheVariants as m
 use Rattle.lil_resolved.specs.declared.resolved.RRoot.TheVariants as root
 use Rattle.lil_resolved.specs.declared.resolved.RSelector.TheVariants as part
-use Rattle.lil_shapes.specs.{Bases.{kind_at, field_at, array_at, elements_at}, Operators.{has_number, takes_two}, Pointers.target_at, declared.{composites.ArrayParts.ArrayParts, pointers.Target.Target}}
+use Rattle.lil_shapes.specs.{Bases.{base_at, kind_at, field_at, array_at, elements_at}, ListLaws.AllFine, Operators.{has_number, takes_two}, Pointers.target_at, Signatures.ParameterLies, declared.{composites.ArrayParts.ArrayParts, pointers.Target.Target}}
 use Rattle.lil_forms.specs.{Places.{variable_form, at_root, part_of}, Statements.opening, Values.operation}
 
 -- the kind of an expression's values
@@ -81,6 +82,21 @@ module _ (t : Table) (Lies : Located → Type 0) (Opens : OpenArray → Type 0) 
     pub sort : p.sort ≡ char
     pub told : is_text text ≡ true
 
+  -- a string for an array of characters, with the number of these
+  pub record IsSpelledFor (p : Parameter) (a : RArgument) : Type 0 where
+    pub text : List ℕ
+    pub count : ℕ
+    pub is : a ≡ given.Spelled text count
+    pub by_value : p.by_place ≡ false
+    pub closed : p.open_array ≡ false
+    pub parts : ArrayParts
+    pub array : array_at t p.sort ≡ Some parts
+    pub element : parts.element ≡ char
+    pub many : elements_at t p.sort ≡ Some count
+    pub holds : length text ≤ count
+    pub few : count ≤ 65535
+    pub told : is_text text ≡ true
+
   -- another open array of such elements
   pub record IsOpenFor (p : Parameter) (a : RArgument) : Type 0 where
     pub at : OpenArray
@@ -90,7 +106,7 @@ module _ (t : Table) (Lies : Located → Type 0) (Opens : OpenArray → Type 0) 
     pub good : Opens at
 
   abbrev pub IsHanded : Parameter → RArgument → Type 0
-  IsHanded p a = IsValueFor p a ⊎ (IsPlaceFor p a ⊎ (IsWholeFor p a ⊎ (IsArrayFor p a ⊎ (IsTextFor p a ⊎ IsOpenFor p a))))
+  IsHanded p a = IsValueFor p a ⊎ (IsPlaceFor p a ⊎ (IsWholeFor p a ⊎ (IsArrayFor p a ⊎ (IsTextFor p a ⊎ (IsOpenFor p a ⊎ IsSpelledFor p a)))))
 
   abbrev pub AreHanded : List Parameter → List RArgument → Type 0
   AreHanded [] [] = Unit {0}
@@ -122,6 +138,11 @@ pub record Property (t : Table) (vs : RNamed → Option RVar) (around : List ℕ
   pub apply : (g : RFunction) (x : RExpr) → takes_function (function_of g (value_kind x)) (value_kind x) ≡ true → value x → value (e.Apply g x)
   -- and calls of functions, by their numbers from 1
   pub invoke : (s n levels r : ℕ) (j : RKind) (xs : List RArgument) → R s n levels → result t s ≡ Some r → kind_at t r ≡ Some j → AreHanded t place array value (parameters t s) xs → value (e.Invoke (n + 1) levels j xs)
+  -- procedures that no other one declares, as values of a procedure type with their parameters and their result
+  pub routine : (s n r : ℕ) → R s n 0 → base_at t r ≡ Some (b.Procedure r) → parameters t s ≡ parameters t r → result t s ≡ result t r → value (e.Routine (n + 1) r)
+  -- and calls of functions that are values of one in whose parameters something lies
+  pub invoke_value : (s r : ℕ) (j : RKind) (x : RExpr) (xs : List RArgument) → base_at t s ≡ Some (b.Procedure s) → AllFine (ParameterLies t) (parameters t s) → result t s ≡ Some r → kind_at t r ≡ Some j → value_kind x ≡ base_view (b.Procedure s)
+      → depth (expression_of x) ≤ 13 → value x → AreHanded t place array value (parameters t s) xs → value (e.InvokeValue x j xs)
   -- chains, and one operation more
   pub begin : (x : RExpr) → value x → value (e.Chain x [])
   pub chain : (op : TwoOp) (a : RExpr) (os : List ROperation) (k : RBase) (x : RExpr) → value_kind (e.Chain a os) ≡ base_view k → takes_two op (base_view k) ≡ true → value_kind x ≡ right_kind op (base_view k)
@@ -151,6 +172,8 @@ nothing t vs around R = record {
   one = λ op x takes h. tt;
   apply = λ g x takes h. tt;
   invoke = λ s n levels r j xs reached returns at all. tt;
+  routine = λ s n r reached is takes returns. tt;
+  invoke_value = λ s r j x xs is lie returns at kind shallow h all. tt;
   begin = λ x h. tt;
   chain = λ op a os k x is takes right h i. tt;
   empty = λ k. tt;

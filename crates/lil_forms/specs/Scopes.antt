@@ -2,15 +2,16 @@
 use Rattle.std.proofs.Common.{◌≡◌, ℕ, zero, suc, ◌+◌, ◌<◌, Bool, true, false, ◌&&◌, List, [], ◌∷◌, ◌++◌, length, map, take, slice_get, Option, None, Some, inl, inr, refl, sym, ap, subst, ◌∙◌, arith}
 use Rattle.std.specs.{Prelude.{◌-◌, option_and_then}, Option.option_map}
 use Rattle.std.proofs.lemmas.{Option.{none-some, slice_get_within, slice_get-map}, List.length_push}
-use Rattle.lil_types.specs.{Types.Table, declared.table.Parameter.Parameter}
+use Rattle.lil_types.specs.{Types.Table}
 use Rattle.lil_declared.specs.declared.declared.RVar.{RVar}
 use Rattle.lil_kinds.specs.{Forms.{parameters, result}, declared.found.Located.Located}
-use Rattle.lil_resolved.specs.{Resolved.{Named, OfModule, OfLevel, Designator, variable_at, shape_of}, Kinds.{Kind, Shape, Outline, Scope, MayCall, procedure_by, parameters_of, result_of, locals_of, parameters_at, locals_at, is_there, outermost, with_held}, Sound.{IsSoundPlace, IsSoundExpression}, Views.{kind_view, named_view, expression_of, place_of}, declared.resolved.{RExpr.RExpr, RNamed.RNamed, RPlace.RPlace}}
+use Rattle.lil_resolved.specs.{Resolved.{Named, OfModule, OfLevel, Designator, variable_at, shape_of}, Kinds.{Shape, Outline, Scope, MayCall, procedure_by, parameters_of, result_of, locals_of, parameters_at, locals_at, is_there, outermost, with_held}, Sound.{IsSoundPlace, IsSoundExpression}, Views.{named_view, expression_of, place_of}, declared.resolved.{RExpr.RExpr, RNamed.RNamed, RPlace.RPlace}}
 use Rattle.lil_resolved.specs.declared.resolved.RNamed.TheVariants as named
 use Rattle.lil_scope.specs.Names.{locals_by}
-use Rattle.lil_shapes.specs.{Pointers.targets, Shaping.{all_some, held_in, lying, variables_by}, ListLaws.{AllFine, some_at}, ShapeSound.{mapped, at_end, within_is, HasShape}, TargetSound.all_known}
+use Rattle.lil_shapes.specs.{Pointers.targets, Shaping.{all_some, lying, variables_by}, ListLaws.{AllFine, some_at}, ShapeSound.{at_end, within_is, HasShape}, Signatures.signatures, TargetSound.all_known}
+pub use Rattle.lil_shapes.specs.{ShapeSound.{HasFirst, first_some}, Signatures.{parameter_shape}}
 use Rattle.lil_shapes.specs.Shaping as shaping
-use Rattle.lil_forms.specs.{Properties.Reach, Values.returned, Variables.{HoldsAddress, locals_out, passing_by, seen_in}}
+use Rattle.lil_forms.specs.{Properties.Reach, Values.returned, Variables.{HoldsAddress, locals_out, seen_in}}
 
 -- ---- tests of two conditions, and of an order
 pub both_left : (a b : Bool) → (a && b) ≡ true → a ≡ true
@@ -26,23 +27,7 @@ pub fine_more : {A : Type 0} (IsFine : A → Type 0) (xs : List A) (x : A) → A
 fine_more IsFine [] x h j = (j, tt)
 fine_more IsFine (y ∷ xs) x h j = (h.0, fine_more IsFine xs x h.1 j)
 
--- values that are all there have a first one
-pub record HasFirst {A : Type 0} (o : Option A) (os : List (Option A)) (xs : List A) : Type 0 where
-  pub value : A
-  pub rest : List A
-  pub is : o ≡ Some value
-  pub others : all_some os ≡ Some rest
-  pub all : xs ≡ value ∷ rest
-
-pub first_some : {A : Type 0} (o : Option A) (os : List (Option A)) (xs : List A) → all_some (o ∷ os) ≡ Some xs → HasFirst o os xs
-first_some None os xs h = absurd (none-some xs h)
-first_some (Some a) os xs h = let rest = mapped (λ rest. a ∷ rest) (all_some os) xs h in record { value = a; rest = rest.0; is = refl; others = rest.1; all = sym rest.2 }
-
 -- ---- calls
--- what the variable for a parameter holds, by the shapes of types
-abbrev pub parameter_shape : List Shape → Parameter → Option Shape
-parameter_shape shapes p = held_in shapes (passing_by p) p.sort
-
 -- a procedure of this procedure type may be called, by its number from 1. Its first variables hold what those for its parameters do, and it
 -- returns what its type says
 pub record IsReached (t : Table) (ts : Scope) (s n levels : ℕ) : Type 0 where
@@ -59,12 +44,13 @@ Calls t R ts = (s n levels : ℕ) → R s n levels → IsReached t ts s n levels
 abbrev pub AreHeld : List Shape → List ℕ → List Shape → Type 0
 AreHeld shapes around held = (w n : ℕ) → slice_get around w ≡ Some n → (x : Shape) × (slice_get shapes n ≡ Some x) × (slice_get held (length around - 1 - w) ≡ Some x) × (is_there x ≡ true)
 
--- what the variables that are seen hold, what lies in the records of the WITHs around, and what behind its pointers, is this, by the shapes
--- of its types; those that hold addresses are parameters; and the procedures that names reach may be called
+-- what the variables that are seen hold, what lies in the records of the WITHs around, what behind its pointers, and what its procedure types
+-- say, is this, by the shapes of its types; those that hold addresses are parameters; and the procedures that names reach may be called
 pub record Fits (t : Table) (vs : RNamed → Option RVar) (around : List ℕ) (R : Reach) (ts : Scope) : Type 0 where
   pub shapes : List Shape
   pub types : shaping.shapes t ≡ Some shapes
   pub targets : ts.targets ≡ targets t shapes
+  pub signatures : ts.signatures ≡ signatures t shapes
   pub variables : (n : RNamed) (v : RVar) → vs n ≡ Some v → (x : Shape) × (lying shapes v ≡ Some x) × (variable_at ts (named_view n) ≡ Some x)
   pub handed : (l x : ℕ) (v : RVar) → vs (named.Level l x) ≡ Some v → HoldsAddress v.mode → slice_get (parameters_at ts l) x ≡ slice_get (locals_at ts l) x
   pub held : AreHeld shapes around ts.held
@@ -89,7 +75,7 @@ taken_same (suc n) (suc x) (y ∷ xs) less = taken_same n x xs (omega (arith, le
 module _ (t : Table) (vs : List RVar) (ls : List (List RVar)) (shapes lies : List Shape) (outlines : List Outline) (chain : List ℕ) (types : shaping.shapes t ≡ Some shapes) (variables : variables_by (Some shapes) vs ≡ Some lies)
     (outlined : AreOutlined shapes ls outlines) where
   abbrev around_none : Scope
-  around_none = outermost (targets t shapes) lies outlines (map (λ n. n + 1) chain)
+  around_none = outermost (targets t shapes) (signatures t shapes) lies outlines (map (λ n. n + 1) chain)
 
   abbrev IsShown : RNamed → RVar → Type 0
   IsShown n v = (x : Shape) × (lying shapes v ≡ Some x) × (variable_at around_none (named_view n) ≡ Some x)
@@ -132,6 +118,7 @@ module _ (t : Table) (vs : List RVar) (ls : List (List RVar)) (shapes lies : Lis
     shapes = shapes;
     types = types;
     targets = refl;
+    signatures = refl;
     variables = shown;
     handed = λ l x v is mode. level_handed l x v (slice_get chain l) refl is mode;
     held = λ w n is. absurd (none-some n is);
@@ -180,6 +167,7 @@ deeper {around} {ts} fits p h there = record {
   shapes = fits.shapes;
   types = fits.types;
   targets = fits.targets;
+  signatures = fits.signatures;
   variables = λ n v is. let one = fits.variables n v is in (one.0, one.1, same_variables ts (shape_of ts (place_of p.place)) (named_view n) ∙ one.2);
   handed = fits.handed;
   held = more_held fits.shapes around ts.held p.sort (shape_of ts (place_of p.place)) fits.held h.shape there;

@@ -1,32 +1,35 @@
 -- Soundness, in what lies in the variables that are seen and in the records of the WITHs around.
 use Rattle.std.proofs.Common.{◌≡◌, ℕ, suc, ◌≤◌, ℤ, Bool, true, ◌+◌, false, List, [], ◌∷◌, ◌++◌, map, length, slice_get, Option, None, Some, IfSome, inl, inr, refl, sym, ap, ◌∙◌, subst}
-use Rattle.std.specs.Prelude.{◌-◌, option_and_then}
+use Rattle.std.specs.Prelude.{◌-◌}
 use Rattle.std.specs.Option.{option_map}
-use Rattle.std.proofs.lemmas.Option.{none-some, cond_some, same_Some}
+use Rattle.std.proofs.lemmas.Option.{none-some, same_Some}
 use Rattle.lil_base.specs.Words.{Cardinal}
 use Rattle.lil_base.specs.declared.operator.{OneOp.OneOp, TwoOp.{TwoOp, TheVariants.{Or, And}}}
-use Rattle.lil_types.specs.{Types.{Table, char, base}, declared.table.Parameter.Parameter}
+use Rattle.lil_types.specs.{Types.{Table, char, base, entry, other_of, meant_by}, declared.table.{Parameter.Parameter, TypeForm.{TheVariants.Procedure}}}
 use Rattle.lil_declared.specs.Modes.{mode_of}
 use Rattle.lil_declared.specs.declared.declared.{Mode.Mode, RVar.RVar}
 use Rattle.lil_declared.specs.declared.declared.Mode.TheVariants as mode
-use Rattle.lil_kinds.specs.{Forms.{parameters, result}, declared.found.{Form.Form, Located.Located, OpenArray.OpenArray}}
+use Rattle.lil_kinds.specs.{Forms.{form_in, of_form, parameters_in, parameters, result_of, result}, declared.found.{Form.Form, Located.Located, OpenArray.OpenArray}}
 use Rattle.lil_kinds.specs.declared.found.Form.TheVariants as form
-use Rattle.lil_resolved.specs.{Bases.own_base, Chains.set_kind, Kinds.{Kind, OfWhole, OfCharacter, OfSet, is_base, Shape, Address, Opened, along, Scope, Word, Row, element_of as elements, count_of, is_there, led_to, parameters_at, parameters_of, procedure_by, shape_by, shape_at}, Sizes.place_depth, Resolved.{variable_at, shape_of, Argument, ByValue, OfPlace, OfAll, OfArray, OfText, OfOpened, Expression, Two, kind_of, right_kind}}
-use Rattle.lil_resolved.specs.Views.{by_value_is, of_place_is, of_all_is, of_array_is, of_text_is, of_opened_is, is_copied, variable_is, handed_is, along_is, held_is, high_is, invoke_is, argument_of, arguments_of, field_is, index_is, follow_is, one_is, apply_is, chain_is, set_is, single_is, span_is, constant_is, taken_is, kind_view, held_by, named_view, base_view, expression_of, place_of, two_of, chained, with_members, empty_set, function_of, member_of, operation_of}
-use Rattle.lil_resolved.specs.declared.resolved.{RArgument.RArgument, RBase.RBase, RExpr.RExpr, RFunction.RFunction, RKind.RKind, RMember.RMember, RNamed.RNamed, ROpening.{ROpening, TheVariants.{Copied, Lent}}, ROperation.ROperation, RPassing.RPassing, RRoot.RRoot}
+use Rattle.lil_resolved.specs.{Bases.own_base, Chains.set_kind, Kinds.{Kind, OfWhole, OfCharacter, OfSet, is_base, Shape, Address, Opened, along, Scope, Word, Row, element_of as elements, count_of, is_there, led_to, parameters_at, parameters_of, result_of as result_by, procedure_by, shape_by, shape_at}, Sizes.{place_depth, depth}, Resolved.{variable_at, shape_of, Argument, ByValue, OfPlace, OfAll, OfArray, OfText, OfOpened, Spelled, Expression, Two, kind_of, right_kind}}
+use Rattle.lil_resolved.specs.Views.{by_value_is, of_place_is, of_all_is, of_array_is, of_text_is, of_opened_is, spelled_is, is_copied, variable_is, handed_is, along_is, held_is, high_is, invoke_is, routine_is, invoke_value_is, argument_of, arguments_of, field_is, index_is, follow_is, one_is, apply_is, chain_is, set_is, single_is, span_is, constant_is, taken_is, kind_view, held_by, named_view, base_view, expression_of, place_of, two_of, chained, with_members, empty_set, function_of, member_of, operation_of}
+use Rattle.lil_resolved.specs.declared.resolved.{RArgument.RArgument, RBase.RBase, RExpr.RExpr, RFunction.RFunction, RKind.RKind, RMember.RMember, RNamed.RNamed, ROpening.{ROpening, TheVariants.{Copied, Lent}}, ROperation.ROperation, RPassing.RPassing}
 use Rattle.lil_resolved.specs.declared.resolved.RNamed.TheVariants as named
 use Rattle.lil_resolved.specs.declared.resolved.RPassing.TheVariants as passing
 use Rattle.lil_resolved.specs.Resolved as resolved
 use Rattle.lil_resolved.specs.Sound as sound
-use Rattle.lil_resolved.specs.Sound.{IsScalar, IsSoundTarget, IsSoundExpression, IsSoundOpened, IsSoundArgument, AreSoundArguments, parameter_of, parameters_given}
+use Rattle.lil_resolved.specs.Sound.{IsScalar, IsSoundTarget, IsSoundExpression, IsSoundOpened, IsSoundCallee, IsSoundArgument, AreSoundArguments, parameter_of, parameters_given}
 use Rattle.lil_resolved.specs.declared.resolved.RBase.TheVariants as b
 use Rattle.lil_resolved.specs.declared.resolved.RExpr.TheVariants as e
 use Rattle.lil_resolved.specs.declared.resolved.RMember.TheVariants as m
 use Rattle.lil_resolved.specs.declared.resolved.RRoot.TheVariants as root
 use Rattle.lil_resolved.specs.declared.resolved.RSelector.TheVariants as part
-use Rattle.lil_shapes.specs.{declared.{composites.ArrayParts.ArrayParts, pointers.Target.Target}, Bases.{plain, kind_at, numbers_of, elements_in, elements_at, field_at, array_at, composite_at}, Pointers.target_at, Shaping.{all_some, there, passing_of, held_in}, BaseLaws.{base_words, kind_base, literal_sound}}
-use Rattle.lil_shapes.specs.{ShapeSound.{mapped, field_shaped, element_shaped, composite_shaped, word_shaped}, TargetSound.{PointsTo, all_known, target_shaped}, Operators.{takes_two, is_a_truth, has_number}}
-use Rattle.lil_forms.specs.{Places.{at_root, part_of, located_in, variable_form}, Values.{operation, returned}, Parts.{placed_is, further_is, chained_more, members_more}, Scopes.{Fits, IsPlaced, placed_as, Runs, has_shape, first_some, parameter_shape}, Properties.{Reach, IsValueFor, IsPlaceFor, IsWholeFor, IsArrayFor, IsTextFor, IsOpenFor, IsHanded, AreHanded, Property, value_kind}, Statements.opening, Variables.{HoldsAddress, passing_by}}
+use Rattle.lil_shapes.specs.{declared.{composites.ArrayParts.ArrayParts, pointers.Target.Target}, Bases.{plain, base_at, kind_at, numbers_of, elements_in, elements_at, field_at, array_at, composite_at}, ListLaws.AllFine, Pointers.target_at, Shaping.{all_some, there, passing_of}, BaseLaws.{base_words, kind_base, literal_sound}}
+use Rattle.lil_shapes.specs.{Signatures.{ParameterLies, passed, kind_returned, signature_in, signature_by, signature, signature_with}, SignatureSound.{IsProcedures, procedures_are, procedures_within, signature_at, parameters_there}}
+use Rattle.lil_shapes.specs.SignatureSound.{all_passed as given_shapes}
+use Rattle.lil_kinds.specs.Forms.{shape as form_of}
+use Rattle.lil_shapes.specs.{ShapeSound.{mapped, there_is, field_shaped, element_shaped, composite_shaped, word_shaped}, TargetSound.{PointsTo, all_known, target_shaped}, Operators.{takes_two, is_a_truth, has_number}}
+use Rattle.lil_forms.specs.{Places.{at_root, part_of, located_in, variable_form}, Values.{operation, returned}, Parts.{placed_is, further_is, chained_more, members_more}, Scopes.{Fits, IsPlaced, placed_as, Runs, has_shape, first_some, parameter_shape}, Properties.{Reach, IsValueFor, IsPlaceFor, IsWholeFor, IsArrayFor, IsTextFor, IsOpenFor, IsSpelledFor, IsHanded, AreHanded, Property, value_kind}, Statements.opening, Variables.{HoldsAddress, passing_by}}
 
 -- elements that are there are those of an array
 row_is : (x : Shape) → is_there (elements x) ≡ true → x ≡ Row (count_of x) (elements x)
@@ -48,9 +51,15 @@ open_passing : (by_place : Bool) → passing_of (mode_of by_place true) ≡ pass
 open_passing false = refl
 open_passing true = refl
 
-pub there_is : (o : Option Shape) (s : Shape) → there o ≡ Some s → (o ≡ Some s) × (is_there s ≡ true)
-there_is None s h = absurd (none-some s h)
-there_is (Some x) s h = let c = cond_some (is_there x) x s h in (ap Some c.1, ap is_there (sym c.1) ∙ c.0)
+-- ---- procedure types, as the check finds their parameters and results
+procedure_signature : (t : Table) (n : ℕ) → IsProcedures t n → signature t n ≡ record { parameters = map passed (parameters t n); result = kind_returned t (result t n) }
+unfolding parameters result form_of
+procedure_signature t n (inl h) =
+    let form : form_of t n ≡ None = ap (λ m. form_in (entry t m)) (ap (meant_by n) h.1) ∙ ap form_in h.1 in
+    ap (signature_by t) h.1 ∙ sym (ap (λ o. record { parameters = map passed (parameters_in o); result = kind_returned t (of_form result_of o) }) form)
+procedure_signature t n (inr (e, ps, r, at, is)) =
+    let form : form_of t n ≡ Some (Procedure ps r) = ap (λ m. form_in (entry t m)) (ap (meant_by n) at ∙ ap (other_of n) is) ∙ ap form_in at ∙ ap Some is in
+    ap (signature_by t) at ∙ ap (signature_in t) is ∙ sym (ap (λ o. record { parameters = map passed (parameters_in o); result = kind_returned t (of_form result_of o) }) form)
 
 module _ {t : Table} {vs : RNamed → Option RVar} {around : List ℕ} {R : Reach} {ts : Scope} (fits : Fits t vs around R ts) where
   abbrev pub Lies : Located → Type 0
@@ -187,13 +196,15 @@ module _ {t : Table} {vs : RNamed → Option RVar} {around : List ℕ} {R : Reac
   character_shaped s y is at = word_shaped t fits.shapes char y (has_shape fits char y (ap (slice_get fits.shapes) (sym is) ∙ at)) (plain b.Character) refl
 
   -- an array of characters
-  pub characters_lie : (p : Located) (parts : ArrayParts) (n : ℕ) → Lies p → array_at t p.sort ≡ Some parts → parts.element ≡ char → elements_at t p.sort ≡ Some n → shape_of ts (place_of p.place) ≡ Row n (Word OfCharacter)
-  characters_lie p parts n h at of many =
-      let x = shape_of ts (place_of p.place) in
+  characters_are : (s : ℕ) (x : Shape) (parts : ArrayParts) (n : ℕ) → slice_get fits.shapes s ≡ Some x → array_at t s ≡ Some parts → parts.element ≡ char → elements_at t s ≡ Some n → x ≡ Row n (Word OfCharacter)
+  characters_are s x parts n is at of many =
       let kind = mapped numbers_of (kind_at t parts.index) n (ap (elements_in t) (sym at) ∙ many) in
-      let row = element_shaped t fits.shapes p.sort x (has_shape fits p.sort x h.shape) parts kind.0 at kind.1 in
+      let row = element_shaped t fits.shapes s x (has_shape fits s x is) parts kind.0 at kind.1 in
       let word = character_shaped parts.element (elements x) of row.0 in
       row_is x (ap is_there word) ∙ ap (λ (n : ℕ). Row n (elements x)) (row.1 ∙ kind.2) ∙ ap (Row n) word
+
+  pub characters_lie : (p : Located) (parts : ArrayParts) (n : ℕ) → Lies p → array_at t p.sort ≡ Some parts → parts.element ≡ char → elements_at t p.sort ≡ Some n → shape_of ts (place_of p.place) ≡ Row n (Word OfCharacter)
+  characters_lie p parts n h at of many = characters_are p.sort (shape_of ts (place_of p.place)) parts n h.shape at of many
 
   -- ---- calls of functions, and what they are handed
   -- a sound argument for a parameter whose variable holds this
@@ -259,13 +270,19 @@ module _ {t : Table} {vs : RNamed → Option RVar} {around : List ℕ} {R : Reac
       let leads : h.good.shape ≡ along (shape_at (parameters_at ts q.levels) q.number) = ap (λ (o : Option Shape). along (shape_by o)) (sym h.good.at) in
       passed_as y a (OfOpened (is_copied o) q.levels q.number) (ap argument_of h.is ∙ of_opened_is o q.levels q.number) (x.3 ∙ ap (Opened (is_copied o)) (same ∙ leads)) (opens_soundly q h.good)
 
+  spelled_passed : (p : Parameter) (a : RArgument) (y : Shape) → parameter_shape fits.shapes p ≡ Some y → IsSpelledFor t Lies Opens (Runs ts) p a → IsPassed y a
+  spelled_passed p a y lies h =
+      let x = shape_there p passing.ByValue y (passed_so p false false h.by_value h.closed) lies in
+      passed_as y a (Spelled h.text h.count) (ap argument_of h.is ∙ spelled_is h.text h.count) (x.3 ∙ characters_are p.sort x.0 h.parts h.count x.1 h.array h.element h.many) (h.told, h.holds, h.few)
+
   one_passed : (p : Parameter) (a : RArgument) (y : Shape) → parameter_shape fits.shapes p ≡ Some y → IsHanded t Lies Opens (Runs ts) p a → IsPassed y a
   one_passed p a y lies (inl h) = value_passed p a y lies h
   one_passed p a y lies (inr (inl h)) = place_passed p a y lies h
   one_passed p a y lies (inr (inr (inl h))) = whole_passed p a y lies h
   one_passed p a y lies (inr (inr (inr (inl h)))) = array_passed p a y lies h
   one_passed p a y lies (inr (inr (inr (inr (inl h))))) = text_passed p a y lies h
-  one_passed p a y lies (inr (inr (inr (inr (inr h))))) = open_passed p a y lies h
+  one_passed p a y lies (inr (inr (inr (inr (inr (inl h)))))) = open_passed p a y lies h
+  one_passed p a y lies (inr (inr (inr (inr (inr (inr h)))))) = spelled_passed p a y lies h
 
   pub record ArePassed (ys : List Shape) (xs : List RArgument) : Type 0 where
     pub takes : ys ≡ parameters_given ts (arguments_of xs)
@@ -286,6 +303,52 @@ module _ {t : Table} {vs : RNamed → Option RVar} {around : List ℕ} {R : Reac
       let c = fits.calls s n levels reached in
       let g = all_passed (parameters t s) xs (parameters_of (procedure_by ts.procedures (n + 1))) (c.takes fits.shapes fits.types) all in
       subst (IsSoundExpression ts) (sym (invoke_is (n + 1) levels j xs)) (c.may, c.returns ∙ ap (returned t) returns ∙ ap (option_map kind_view) at, g.takes, g.sound)
+
+  -- ---- procedures as values
+  -- a procedure type whose parameters hold this, and are there
+  signature_known : (n : ℕ) (ys : List Shape) → base_at t n ≡ Some (b.Procedure n) → all_some (map (parameter_shape fits.shapes) (parameters t n)) ≡ Some ys → slice_get ts.signatures n ≡ Some (record { parameters = ys; result = returned t (result t n) })
+  signature_known n ys at lie =
+      let is = (procedures_are t n n at).1 in
+      ap (λ ss. slice_get ss n) fits.signatures
+      ∙ signature_at t fits.shapes (all_known t fits.shapes fits.types) n (procedures_within t n is)
+      ∙ ap (λ s. Some (signature_with fits.shapes s)) (procedure_signature t n is)
+      ∙ ap (λ (ys : List Shape). Some (record { parameters = ys; result = returned t (result t n) })) (given_shapes fits.shapes (parameters t n) ys lie)
+
+  pub routine_sound : (s n r : ℕ) → R s n 0 → base_at t r ≡ Some (b.Procedure r) → parameters t s ≡ parameters t r → result t s ≡ result t r → Runs ts (e.Routine (n + 1) r)
+  routine_sound s n r reached at takes returns =
+      let c = fits.calls s n 0 reached in
+      let its : procedure_by ts.procedures (n + 1) ≡ Some c.may.its = c.may.known in
+      let lie : all_some (map (parameter_shape fits.shapes) (parameters t r)) ≡ Some (parameters_of (Some c.may.its)) =
+      ap (λ ps. all_some (map (parameter_shape fits.shapes) ps)) (sym takes) ∙ c.takes fits.shapes fits.types ∙ ap (λ o. Some (parameters_of o)) its in
+      let gives : returned t (result t r) ≡ c.may.its.result = ap (returned t) (sym returns) ∙ sym c.returns ∙ ap result_by its in
+      subst (IsSoundExpression ts) (sym (routine_is (n + 1) r)) (record {
+        its = c.may.its;
+        known = its;
+        declared = c.may.declared;
+        same = signature_known r (parameters_of (Some c.may.its)) at lie ∙ ap (λ (k : Option Kind). Some (record { parameters = parameters_of (Some c.may.its); result = k })) gives;
+      })
+
+  -- a call of one, which is the value of x
+  pub callee_sound : (s : ℕ) (x : RExpr) (xs : List RArgument) → base_at t s ≡ Some (b.Procedure s) → AllFine (ParameterLies t) (parameters t s) → value_kind x ≡ base_view (b.Procedure s) → depth (expression_of x) ≤ 13 → AreHanded t Lies Opens (Runs ts) (parameters t s) xs
+      → IsSoundCallee ts (expression_of x) (parameters_given ts (arguments_of xs)) (returned t (result t s)) × AreSoundArguments ts (arguments_of xs)
+  callee_sound s x xs at lie kind shallow all =
+      let ys = parameters_there t fits.shapes (all_known t fits.shapes fits.types) (parameters t s) lie in
+      let g = all_passed (parameters t s) xs ys.0 ys.1 all in (
+        record {
+          number = s;
+          kind = kind;
+          known = signature_known s ys.0 at ys.1 ∙ ap (λ (ys : List Shape). Some (record { parameters = ys; result = returned t (result t s) })) g.takes;
+          shallow = shallow;
+        },
+        g.sound,
+      )
+
+  pub invoke_value_sound : (s r : ℕ) (j : RKind) (x : RExpr) (xs : List RArgument) → base_at t s ≡ Some (b.Procedure s) → AllFine (ParameterLies t) (parameters t s) → result t s ≡ Some r → kind_at t r ≡ Some j → value_kind x ≡ base_view (b.Procedure s)
+      → depth (expression_of x) ≤ 13 → Runs ts x → AreHanded t Lies Opens (Runs ts) (parameters t s) xs → Runs ts (e.InvokeValue x j xs)
+  invoke_value_sound s r j x xs at lie returns of kind shallow runs all =
+      let c = callee_sound s x xs at lie kind shallow all in
+      let gives : returned t (result t s) ≡ Some (kind_view j) = ap (returned t) returns ∙ ap (option_map kind_view) of in
+      subst (IsSoundExpression ts) (sym (invoke_value_is x j xs)) (subst (IsSoundCallee ts (expression_of x) (parameters_given ts (arguments_of xs))) gives c.0, runs, c.1)
 
 -- ---- expressions
 module _ (ts : Scope) where
@@ -347,6 +410,8 @@ soundness {ts} fits = record {
   one = one_sound ts;
   apply = apply_sound ts;
   invoke = invoke_sound fits;
+  routine = routine_sound fits;
+  invoke_value = invoke_value_sound fits;
   begin = begin_sound ts;
   chain = chain_sound ts;
   empty = λ k. subst (IsSoundExpression ts) (sym (set_is k [])) refl;

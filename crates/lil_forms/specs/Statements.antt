@@ -30,6 +30,7 @@ composed p (form.Text cs) = Some (s.Text p.place cs)
 composed p (form.Located q) = Some (s.Copy p.place q.place)
 composed p (form.Open a) = None
 composed p (form.Value x) = None
+composed p (form.Routine n) = None
 
 -- a value goes to a place, by the place's type
 unfoldable pub assigned : Table → Option Located → Found → Option RStmt
@@ -128,24 +129,34 @@ open_given t o (form.Text cs) = Some (given.Text cs)
 open_given t o (form.Located p) = array_given t o p
 open_given t o (form.Open a) = Some (given.Opened o a.levels a.number)
 open_given t o (form.Value x) = None
+open_given t o (form.Routine n) = None
 
 -- ---- places
 abbrev pub place_given : Option Located → Option RArgument
 place_given None = None
 place_given (Some p) = Some (given.Place p.place)
 
--- all that lies there
-abbrev pub whole_given : Option Located → Option RArgument
-whole_given None = None
-whole_given (Some p) = Some (given.All p.place)
+-- ---- values
+-- a string for an array of so many characters
+abbrev pub spelled_as : List ℕ → Option ℕ → Option RArgument
+spelled_as cs None = None
+spelled_as cs (Some n) = if nat_le n 65535 then Some (given.Spelled cs n) else None
 
--- ---- values: an array or a record goes over as a whole
+-- a string, or all that lies at a place, for an array or a record of a type
+abbrev pub whole_given : Table → ℕ → Form → Option RArgument
+whole_given t s form.Nothing = None
+whole_given t s (form.Text cs) = spelled_as cs (elements_at t s)
+whole_given t s (form.Located p) = Some (given.All p.place)
+whole_given t s (form.Open a) = None
+whole_given t s (form.Value x) = None
+whole_given t s (form.Routine n) = None
+
 abbrev pub value_as : RKind → Option RExpr → Option RArgument
 value_as j None = None
 value_as j (Some x) = Some (given.Value j x)
 
 abbrev pub value_by : Table → ℕ → Option RKind → Found → Option RArgument
-value_by t s None a = if composite_at t s then whole_given (located_in a.form) else None
+value_by t s None a = if composite_at t s then whole_given t s a.form else None
 value_by t s (Some j) a = value_as j (typed t s a)
 
 -- ---- what a call is handed, argument by argument, where all of it has code
@@ -194,6 +205,7 @@ place_of_layer (x.All p) = None
 place_of_layer (x.Array o p high) = None
 place_of_layer (x.Text cs) = None
 place_of_layer (x.Opened o n i) = None
+place_of_layer (x.Spelled cs count) = None
 
 abbrev pub place_in : RArgument → Option RPlace
 place_in a = place_of_layer (out-RArgument a)
@@ -205,6 +217,7 @@ value_of_layer (x.All p) = None
 value_of_layer (x.Array o p high) = None
 value_of_layer (x.Text cs) = None
 value_of_layer (x.Opened o n i) = None
+value_of_layer (x.Spelled cs count) = None
 
 abbrev pub value_in : RArgument → Option RExpr
 value_in a = value_of_layer (out-RArgument a)

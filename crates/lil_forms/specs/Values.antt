@@ -1,5 +1,5 @@
 -- The values of operands: expressions that run, where there are any, and the forms of operators, sets and standard functions over them.
-use Rattle.std.specs.Prelude.{ℕ, List, [], ◌∷◌, ◌++◌, Option, Some, None, option_and_then, ℤ, pos}
+use Rattle.std.specs.Prelude.{ℕ, ◌+◌, nat_lt, List, [], ◌∷◌, ◌++◌, Option, Some, None, if◌then◌else◌, ℤ, pos}
 use Rattle.std.specs.Option.{option_map}
 use Rattle.lil_base.specs.declared.operator.{OneOp.OneOp, TwoOp.TwoOp}
 use Rattle.lil_types.specs.Types.{Table, base, cardinal}
@@ -16,12 +16,12 @@ use Rattle.lil_resolved.specs.declared.resolved.RBase.TheVariants as b
 use Rattle.lil_resolved.specs.declared.resolved.RExpr.TheVariants as e
 use Rattle.lil_resolved.specs.declared.resolved.RFunction.TheVariants as f
 use Rattle.lil_resolved.specs.declared.resolved.RMember.TheVariants as m
-use Rattle.lil_shapes.specs.{declared.members.Members.Members, Bases.{kind_at, base_at, members_at}}
+use Rattle.lil_shapes.specs.{declared.members.Members.Members, Bases.{kind_at, base_at, members_at}, Signatures.kind_returned}
 use Rattle.lil_forms.specs.declared.operators.Built.{Built}
 
 -- ---- the kind of what a procedure returns, by the type of its result
 abbrev pub returned : Table → Option ℕ → Option kinds.Kind
-returned t r = option_map kind_view (option_and_then (kind_at t) r)
+returned t r = option_map kind_view (kind_returned t r)
 
 -- ---- constants of a base, by their numbers
 abbrev pub constant : Option RBase → ℤ → Option RExpr
@@ -43,6 +43,19 @@ own t (form.Text cs) = None
 own t (form.Located p) = taken t p
 own t (form.Open a) = None
 own t (form.Value x) = Some x
+own t (form.Routine n) = None
+
+-- a procedure of the text as a value of a procedure type: the code has its number from 1, as a byte
+abbrev pub routine_by : ℕ → ℕ → Option RExpr
+routine_by s n = if nat_lt n 255 then Some (e.Routine (n + 1) s) else None
+
+abbrev pub routine_in : ℕ → Form → Option RExpr
+routine_in s form.Nothing = None
+routine_in s (form.Text cs) = None
+routine_in s (form.Located p) = None
+routine_in s (form.Open a) = None
+routine_in s (form.Value x) = None
+routine_in s (form.Routine n) = routine_by s n
 
 abbrev pub typed_by : Table → ℕ → Kind → Form → Option RExpr
 typed_by t s (k.Whole z) f = constant (base_at t (base t s)) z
@@ -51,7 +64,7 @@ typed_by t s (k.Chars c) f = Some (e.Constant b.Character (pos c.first))
 typed_by t s k.Nil f = constant (base_at t (base t s)) (pos 0)
 typed_by t s (k.Of r) f = own t f
 typed_by t s (k.Open r) f = None
-typed_by t s (k.Routine r) f = None
+typed_by t s (k.Routine r) f = routine_in (base t s) f
 
 unfoldable pub typed : Table → ℕ → Found → Option RExpr
 typed t s a = typed_by t s a.kind a.form
@@ -136,6 +149,7 @@ high_of (form.Text cs) = None
 high_of (form.Located p) = None
 high_of (form.Open a) = Some (e.High a.levels a.number)
 high_of (form.Value x) = None
+high_of (form.Routine n) = None
 
 -- what a standard function makes of a value
 abbrev pub function_value : Table → Standard → ℕ → Found → Option RExpr

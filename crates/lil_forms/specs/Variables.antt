@@ -1,15 +1,11 @@
 -- Which variable a name means to the procedure at hand, and what is known of it.
-use Rattle.std.specs.Prelude.{ℕ, Bool, true, false, ◌==◌, nat_lt, List, [], slice_get, Option, Some, None, if◌then◌else◌}
-use Rattle.lil_types.specs.declared.table.Parameter.{Parameter}
-use Rattle.lil_declared.specs.{Modes.mode_of, declared.declared.{Mode.Mode, RVar.RVar}}
+use Rattle.std.specs.Prelude.{ℕ, ◌==◌, nat_lt, List, [], slice_get, Option, Some, None, if◌then◌else◌}
+use Rattle.lil_declared.specs.declared.declared.{Mode.Mode, RVar.RVar}
 use Rattle.lil_declared.specs.declared.declared.Mode.TheVariants as mode
 use Rattle.lil_resolved.specs.declared.resolved.RNamed.{RNamed}
 use Rattle.lil_resolved.specs.declared.resolved.RNamed.TheVariants as n
 use Rattle.lil_scope.specs.{declared.{env.Env.Env, thing.Variable.Variable}, Names.{chain, locals_in, variable_levels}}
-
--- how the variable for a parameter is declared
-abbrev pub passing_by : Parameter → Mode
-passing_by p = mode_of p.by_place p.open_array
+pub use Rattle.lil_shapes.specs.Signatures.{passing_by}
 
 -- one that holds an address
 abbrev pub HoldsAddress : Mode → Type 0

@@ -1,12 +1,11 @@
 ghost use Rattle.std.specs.Prelude.{◌≡◌, None, if◌then◌else◌, IfOk};
 ghost use Rattle.lil_shapes.specs.Bases.{composite_at};
-ghost use Rattle.lil_forms.specs.Places.{located_in};
 ghost use Rattle.lil_forms.specs.Statements as spec;
 
 use crate::places::located_in;
 use crate::sets::allocated;
 use crate::values::typed;
-use lil_base::{Items, Memory, Request, joined};
+use lil_base::{Items, Memory, Request, Shared, Text, joined};
 use lil_declared::Resident;
 use lil_kinds::{Form, Found, Located};
 use lil_resolved::{Allocation, RArgument, RExpr, RKind, ROpening, RPlace, RStmt};
@@ -69,19 +68,46 @@ fn open_given(t: &TypeTable, opening: ROpening, of: Form) -> Option<RArgument>
     }
 }
 
-/// All of an array or a record, for a parameter by value.
+/// A string for an array of so many characters, where the number is a word.
+fn spelled_as(text: Shared<Text>, count: Option<u32>) -> Option<RArgument>
+    ensures { result ≡ spec.spelled_as text count }
+{
+    match count {
+        Some(count) if count <= 65535 => Some(RArgument::Spelled(text, count as u16)),
+        _ => {
+            drop(text);
+            None
+        }
+    }
+}
+
+/// A string, or all that lies at a place, for an array or a record of a type.
+fn whole_given(t: &TypeTable, sort: TypeId, of: Form) -> Option<RArgument>
+    ensures { result ≡ spec.whole_given t.now sort of }
+{
+    match of {
+        Form::Text(text) => spelled_as(text, elements_at(t, sort)),
+        Form::Located(of) => Some(RArgument::All(of.place)),
+        rest => {
+            drop(rest);
+            None
+        }
+    }
+}
+
+/// All of an array or a record, or a string, for a parameter by value.
 fn composite_by(t: &TypeTable, sort: TypeId, of: Form) -> Option<RArgument>
-    ensures { result ≡ if composite_at t.now sort then spec.whole_given (located_in of) else None }
+    ensures { result ≡ if composite_at t.now sort then spec.whole_given t.now sort of else None }
 {
     if composite_at(t, sort) {
-        whole_given(located_in(of))
+        whole_given(t, sort, of)
     } else {
         drop(of);
         None
     }
 }
 
-/// A value for a parameter: one of a kind, or all of an array or a record.
+/// A value for a parameter: one of a kind, all of an array or a record, or a string for an array.
 fn value_by(t: &TypeTable, sort: TypeId, kind: Option<RKind>, of: Found) -> Option<RArgument>
     ensures { result ≡ spec.value_by t.now sort kind of }
 {
@@ -101,16 +127,6 @@ fn place_given(of: Option<Located>) -> Option<RArgument>
     match of {
         None => None,
         Some(of) => Some(RArgument::Place(of.place)),
-    }
-}
-
-/// All that lies at a place, for a parameter by value.
-fn whole_given(of: Option<Located>) -> Option<RArgument>
-    ensures { result ≡ spec.whole_given of }
-{
-    match of {
-        None => None,
-        Some(of) => Some(RArgument::All(of.place)),
     }
 }
 

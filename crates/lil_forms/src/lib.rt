@@ -19,5 +19,5 @@ pub use places::{
 };
 pub use sets::{allocated, turned};
 pub use statements::{assigned, changed, changed_by_one, created, disposed, note_characters};
-pub use values::{typed, typed_by};
+pub use values::{own, typed, typed_by};
 pub use variables::{named_at, seen};

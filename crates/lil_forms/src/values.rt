@@ -30,8 +30,8 @@ pub(crate) fn taken(t: &TypeTable, of: Located) -> Option<RExpr>
     }
 }
 
-/// The value of a form that has a type.
-fn own(t: &TypeTable, of: Form) -> Option<RExpr>
+/// The value of a form that has a type, None where it has no code.
+pub fn own(t: &TypeTable, of: Form) -> Option<RExpr>
     ensures { result ≡ spec.own t.now of }
 {
     match of {
@@ -41,12 +41,35 @@ fn own(t: &TypeTable, of: Form) -> Option<RExpr>
             drop(text);
             None
         }
-        Form::Nothing | Form::Open(_) => None,
+        Form::Nothing | Form::Open(_) | Form::Routine(_) => None,
     }
 }
 
-/// The value of an operand of a kind in its own type, or that of a constant without one in the type `sort`. None where its
-/// form has no code.
+/// A procedure of the text as a value of a procedure type; its number from 1 is a byte in the code.
+fn routine_by(sort: TypeId, number: usize) -> Option<RExpr>
+    ensures { result ≡ spec.routine_by sort number }
+{
+    if number < 255 {
+        Some(RExpr::Routine((number + 1) as u8, sort as usize))
+    } else {
+        None
+    }
+}
+
+fn routine_in(sort: TypeId, of: Form) -> Option<RExpr>
+    ensures { result ≡ spec.routine_in sort of }
+{
+    match of {
+        Form::Routine(number) => routine_by(sort, number),
+        rest => {
+            drop(rest);
+            None
+        }
+    }
+}
+
+/// The value of an operand of a kind in its own type, or that of a constant without one, or of a procedure, in the type
+/// `sort`. None where its form has no code.
 pub fn typed_by(t: &TypeTable, sort: TypeId, kind: Kind, form: Form) -> Option<RExpr>
     ensures { result ≡ spec.typed_by t.now sort kind form }
 {
@@ -68,10 +91,11 @@ pub fn typed_by(t: &TypeTable, sort: TypeId, kind: Kind, form: Form) -> Option<R
             drop(form);
             constant(base_at(t, base(t, sort)), 0)
         }
-        Kind::Open(_) | Kind::Routine(_) => {
+        Kind::Open(_) => {
             drop(form);
             None
         }
+        Kind::Routine(_) => routine_in(base(t, sort), form),
     }
 }
 

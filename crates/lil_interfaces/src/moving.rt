@@ -5,7 +5,7 @@ use crate::standard::known;
 use crate::surface::Exported;
 use lil_base::{Items, Memory, Name};
 use lil_scope::{Blocks, Kind, Routine, Thing, Variable};
-use lil_types::{Field, Origin, Parameter, TypeEntry, TypeForm, TypeId, TypeTable, add};
+use lil_types::{Field, Fields, Origin, Parameter, TypeEntry, TypeForm, TypeId, TypeTable, add};
 use std::alloc::Global;
 
 /// The number in the unit's table of a type that an interface has under this number, where `start` types stood in the table
@@ -51,15 +51,13 @@ fn moved_parameters(
     Ok(all)
 }
 
-fn moved_fields(alloc: Global, start: usize, of: &[Field]) -> Result<Items<Field>, Memory>
+fn moved_fields(alloc: Global, start: usize, of: &[Field]) -> Result<Fields, Memory>
     ensures { IfOk result (λ fs. fs ≡ map (spec.moved_field start) of.now) }
 {
-    let mut all = Items::new(alloc);
+    let mut all = Fields::new(alloc);
     for one in of {
-        all.push(Field {
-            name: one.name.copy(alloc)?,
-            sort: moved(start, one.sort),
-        })?;
+        let (_, more) = all.with(alloc, &one.name, moved(start, one.sort))?;
+        all = more;
     }
     Ok(all)
 }

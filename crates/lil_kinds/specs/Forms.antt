@@ -1,8 +1,7 @@
 -- The parts of types. An opaque type that has another in its implementation is that type.
-use Rattle.std.specs.Prelude.{ℕ, ◌+◌, ◌==◌, nat_eq, pos, Bool, true, false, ◌||◌, List, [], ◌∷◌, length, slice_get, Option, Some, None, is_some, if◌then◌else◌}
-use Rattle.std.specs.Cmp.Lexicographic.{pointwise}
-use Rattle.lil_types.specs.{Types.{Table, char, cardinal, bit_set, proc, address, span, entry, known, meant}, declared.table.{Span.Span, Facts.Facts, Field.Field, Parameter.Parameter, TypeEntry.TypeEntry, TypeForm.{TypeForm, TheVariants.{Array, Record, SetOf, Pointer, Procedure, Opaque}}}}
-use Rattle.lil_kinds.specs.declared.forms.{ArrayParts.ArrayParts, FieldAt.FieldAt}
+use Rattle.std.specs.Prelude.{ℕ, ◌==◌, pos, Bool, true, false, ◌||◌, List, [], length, slice_get, Option, Some, None, is_some, if◌then◌else◌}
+use Rattle.lil_types.specs.{Types.{Table, char, cardinal, bit_set, proc, address, span, entry, known, meant}, Fields.field_from, declared.{table.{Span.Span, Facts.Facts, Parameter.Parameter, TypeEntry.TypeEntry, TypeForm.{TypeForm, TheVariants.{Array, Record, SetOf, Pointer, Procedure, Opaque}}}, fields.FieldAt.FieldAt}}
+use Rattle.lil_kinds.specs.declared.forms.ArrayParts.{ArrayParts}
 
 -- ---- what is known of a type
 abbrev pub form_in : Option TypeEntry → Option TypeForm
@@ -47,14 +46,6 @@ unfoldable pub is_char_array : Table → ℕ → Bool
 is_char_array t n = has_characters (array_parts t n)
 
 -- ---- records
-abbrev pub same_name : List ℕ → List ℕ → Bool
-same_name a b = pointwise nat_eq a b
-
--- the first field of a name, where the fields have numbers from this one on
-abbrev pub field_from : ℕ → List Field → List ℕ → Option FieldAt
-field_from k [] name = None
-field_from k (x ∷ xs) name = if same_name x.name name then Some (record { number = k; sort = x.sort }) else field_from (k + 1) xs name
-
 abbrev pub field_of : List ℕ → TypeForm → Option FieldAt
 field_of name (Record xs) = field_from 0 xs name
 field_of name _ = None

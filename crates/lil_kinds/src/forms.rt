@@ -4,7 +4,7 @@ ghost use Rattle.lil_kinds.specs.Forms as spec;
 
 use lil_base::Name;
 use lil_types::{
-    ADDRESS, BITSET, CARDINAL, CHAR, Field, PROC, Parameter, Span, TypeForm, TypeId, TypeTable,
+    ADDRESS, BITSET, CARDINAL, CHAR, FieldAt, PROC, Parameter, Span, TypeForm, TypeId, TypeTable,
     entry, known, meant,
 };
 
@@ -13,13 +13,6 @@ use lil_types::{
 pub struct ArrayParts {
     pub index: TypeId,
     pub element: TypeId,
-}
-
-/// A field of a record: its number, from 0, and its type.
-#[derive(Clone, Copy)]
-pub struct FieldAt {
-    pub number: usize,
-    pub sort: TypeId,
 }
 
 /// How a type is built, None for a standard type.
@@ -58,36 +51,13 @@ pub fn array_parts(t: &TypeTable, n: TypeId) -> Option<ArrayParts>
     }
 }
 
-fn same_name(a: &[u8], b: &[u8]) -> bool
-    ensures { result ≡ spec.same_name a.now b.now }
-{
-    a == b
-}
-
-/// The first of these fields that has the name.
-fn field_in(fields: &[Field], name: &[u8]) -> Option<FieldAt>
-    ensures { result ≡ spec.field_from 0 fields.now name.now }
-{
-    let mut number = 0;
-    for field in fields {
-        if same_name(field.name.as_slice(), name) {
-            return Some(FieldAt {
-                number,
-                sort: field.sort,
-            });
-        }
-        number += 1;
-    }
-    None
-}
-
 /// The field of this name, None where the type is no record or has no such field.
 #[tactic(auto, unfolding(crate::specs::Forms::field))]
 pub fn field(t: &TypeTable, n: TypeId, name: &Name) -> Option<FieldAt>
     ensures { result ≡ spec.field t.now n name.now }
 {
     match shape(t, n) {
-        Some(TypeForm::Record(fields)) => field_in(fields.as_slice(), name.as_slice()),
+        Some(TypeForm::Record(fields)) => fields.find(name),
         _ => None,
     }
 }

@@ -30,7 +30,8 @@ pub struct OpenArray {
 }
 
 /// What is done to have the value of an expression: nothing, where it is a constant of which all is known, and where its
-/// form has no code; a string's characters are taken; the value at a place; an open array, which has none; or what is computed.
+/// form has no code; a string's characters are taken; the value at a place; an open array, which has none; what is computed; or
+/// a procedure of the text itself, by its number.
 #[derive(Drop)]
 pub enum Form {
     Nothing,
@@ -38,6 +39,7 @@ pub enum Form {
     Located(Located),
     Open(OpenArray),
     Value(RExpr),
+    Routine(usize),
 }
 
 /// An expression that has a type: its form, what is known of its value, its first token, and its depth.

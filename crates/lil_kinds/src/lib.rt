@@ -7,9 +7,8 @@ mod operators;
 mod relations;
 
 pub use forms::{
-    ArrayParts, FieldAt, arity, array_parts, element_span, field, has_nil, is_char_array,
-    is_opaque, is_record, is_routine, parameter, parameters, result, set_base, shape, span_of,
-    target,
+    ArrayParts, arity, array_parts, element_span, field, has_nil, is_char_array, is_opaque,
+    is_record, is_routine, parameter, parameters, result, set_base, shape, span_of, target,
 };
 pub use found::{Applied, Form, Found, Located, OpenArray, Standing};
 pub use operators::{extreme, function, one, operand_type, two};

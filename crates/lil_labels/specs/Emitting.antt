@@ -132,6 +132,7 @@ inside_of h x = record {
     each = x.described.each;
     held = ap (λ (ws : List ℕ). h.word ∷ ws) x.described.held;
     held_shapes = ap (λ (ts : List Shape). shape_held x.tables.shapes h ∷ ts) x.described.held_shapes;
+    number = x.described.number;
   };
   room = x.room;
   word = x.word;

@@ -1,14 +1,14 @@
 -- From a program module that is loaded alone.
-use Rattle.std.proofs.Common.{◌≡◌, ℕ, zero, suc, ◌+◌, ◌*◌, ◌<◌, ◌≤◌, inl, inr, true, Some, List, [], ◌∷◌, length, refl, sym, ap, ◌∙◌, arith}
+use Rattle.std.proofs.Common.{◌≡◌, ℕ, zero, suc, ◌+◌, ◌*◌, ◌<◌, ◌≤◌, inl, inr, true, Some, List, [], ◌∷◌, length, map, subst, refl, sym, ap, ◌∙◌, arith}
 use Rattle.std.specs.Prelude.{nat_le}
 use Rattle.std.proofs.lemmas.{Bool.le-leb, Option.{none-some, same_Some}}
 use Rattle.lil_base.specs.declared.fault.{TrapKind.TrapKind, LimitKind.LimitKind}
 use Rattle.lil_base.specs.declared.fault.LimitKind.TheVariants as limit
-use Rattle.lil_resolved.specs.{Kinds.all_words, Resolved.{Resolved}, Sizes.{frame_words, IsSmall}}
+use Rattle.lil_resolved.specs.{Kinds.all_words, Resolved.{Resolved, outline_of}, Sizes.{frame_words, IsSmall}}
 use Rattle.lil_meaning.specs.{World.World, Items.{Phase, Trapped, Source}, Steps.next, Runs.{begun, state_of}}
 use Rattle.lil_mcode.specs.Table.{Module, State, module_at}
-use Rattle.lil_table.specs.{Rows.Translates, Lengths.body_small}
-use Rattle.lil_match.specs.{Goes.Short, Running.{mrun, running}, Parts.yes}
+use Rattle.lil_table.specs.{Rows.{lone_number, Translates}, Lengths.body_small}
+use Rattle.lil_match.specs.{Homes.Listed, Goes.Short, Running.{mrun, running}, Parts.yes}
 use Rattle.lil_laws.specs.{Loading.{Compiled, IsSpent, entry_for, table_from, image, loaded}, Whole.{TrapsIn, Unlimited, Agrees, agrees_more}, Reaching.Reaches, Start.Body}
 use Rattle.lil_laws.specs.Start as all
 
@@ -25,9 +25,12 @@ module _ (p : Resolved) (strings entries code : List ℕ) (small : IsSmall p str
   abbrev pub begins : State
   begins = image (one ∷ []) 1 []
 
-  -- its pointers point to what it says
-  same : all.Pointing (one ∷ []) p.targets
-  same zero o e = ap (λ (x : Compiled). x.text.targets) (sym (same_Some one o e))
+  -- what it lists
+  abbrev listed : Listed
+  listed = record { targets = p.targets; signatures = p.signatures; procedures = map outline_of p.procedures; number = lone_number }
+
+  same : all.Listing (one ∷ []) listed
+  same zero o e = subst (all.IsListed (one ∷ []) listed 0) (same_Some one o e) (record { targets = refl; signatures = refl; procedures = refl; number = refl; lone = refl })
   same (suc i) o e = absurd (none-some o e)
 
   room : 1 + (all_words p.variables + length strings) + frame_words [] p.body ≤ 65535
@@ -40,7 +43,7 @@ module _ (p : Resolved) (strings entries code : List ℕ) (small : IsSmall p str
       yes _ _ _ room
 
   -- a limit is one of words: of the stack or of the store
-  spent : (t : Source) (k : LimitKind) → Short (p ∷ []) (all.ctx (one ∷ []) p.targets same its_body [] room).stack.base (next (p ∷ []) t) k → IsSpent p strings k t
+  spent : (t : Source) (k : LimitKind) → Short (p ∷ []) (all.ctx (one ∷ []) listed same its_body [] room).stack.base (next (p ∷ []) t) k → IsSpent p strings k t
   spent t limit.Stack e = record { kind = inl (refl, e.1); short = omega (arith, e.0.less) }
   spent t limit.Store e = record { kind = inr refl; short = omega (arith, e.less) }
   spent t k e = absurd e
@@ -52,11 +55,11 @@ module _ (p : Resolved) (strings entries code : List ℕ) (small : IsSmall p str
 
   pub correct : (w : World) (steps : ℕ) → Correct w steps
   correct w steps =
-      let c = all.correct (one ∷ []) p.targets same its_body [] room w steps in
+      let c = all.correct (one ∷ []) listed same its_body [] room w steps in
       record { n = c.n; agrees = agrees_more table _ (IsSpent p strings) (state_of p w c.n) (mrun steps (running begins w)) (spent (state_of p w c.n)) c.agrees; far = c.far }
 
   pub reached : (w : World) (n : ℕ) → Reaches (p ∷ []) (begun (p ∷ []) (0 ∷ []) (1 ∷ []) w) (running begins w) n
-  reached w n = all.reached (one ∷ []) p.targets same its_body [] room w n
+  reached w n = all.reached (one ∷ []) listed same its_body [] room w n
 
   -- the one module of the table
   abbrev pub own : Module

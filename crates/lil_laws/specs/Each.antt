@@ -1,14 +1,14 @@
 -- One step of the source, from any matched state.
 use Rattle.std.proofs.Common.{◌≡◌, ℕ, ◌+◌, true, false, List, [], ◌∷◌, refl, sym, ◌⊎◌, ⊎_elim, arith}
 use Rattle.std.specs.Prelude.{ℤ}
-use Rattle.lil_resolved.specs.{Kinds.{Kind, Scalar, within}, Resolved.{Named, Designator, Variable, Handed, Along, Held, Field, Element, Follow, Expression, Constant, Taken, One, Two, Short, Apply, With, WithSpan, Invoke, High, Assign, Copy, Text, Inside, Change, Member, New, Allocate, Request, If, Case, While, Repeat, Loop, Exit, Halt, Return, Answer, Call, For, Statements, Arguments, NoMore, Also}}
-use Rattle.lil_meaning.specs.Items.{Place, Scalars, Places, Wholes, Opens, Texts, Hole, Get, Part, IndexBy, IndexAt, AlongAt, Pointed, SetTo, StoreAt, CopyTo, CopyFrom, TextTo, NewAt, AllocateBy, AllocateAt, ChangeBy, ChangeAt, OneOf, LeftOf, RightOf, ShortOf, ApplyTo, WithMember, MemberOf, WithMembers, MembersFrom, MembersTo, MemberBy, MemberAt, Requested, Called, Datum, Pass, PassPlace, PassAll, Returning, PassArray, Choose, Turn, Again, Pick, Hold, StartOf, LimitOf, Task, Do, Passing, Until, Looping, Turns, Holding, End, Item, Value, Evaluate, PlaceOf, Fill, Perform, Source}
+use Rattle.lil_resolved.specs.{Kinds.{Kind, Scalar, within}, Resolved.{Named, Designator, Variable, Handed, Along, Held, Field, Element, Follow, Expression, Constant, Taken, One, Two, Short, Apply, With, WithSpan, Invoke, High, Routine, InvokeValue, Assign, Copy, Text, Inside, Change, Member, New, Allocate, Request, If, Case, While, Repeat, Loop, Exit, Halt, Return, Answer, Call, CallValue, For, Statements, Arguments, NoMore, Also}}
+use Rattle.lil_meaning.specs.Items.{Place, Scalars, Places, Wholes, Opens, Texts, Hole, Get, Part, IndexBy, IndexAt, AlongAt, Pointed, SetTo, StoreAt, CopyTo, CopyFrom, TextTo, NewAt, AllocateBy, AllocateAt, ChangeBy, ChangeAt, OneOf, LeftOf, RightOf, ShortOf, ApplyTo, WithMember, MemberOf, WithMembers, MembersFrom, MembersTo, MemberBy, MemberAt, Requested, Called, Datum, Calling, Callee, Spelling, Pass, PassPlace, PassAll, Returning, PassArray, Choose, Turn, Again, Pick, Hold, StartOf, LimitOf, Task, Do, Passing, Until, Looping, Turns, Holding, End, Item, Value, Evaluate, PlaceOf, Fill, Perform, Source}
 use Rattle.lil_mcode.specs.Table.{State, going}
-use Rattle.lil_match.specs.{Homes.{word_for, Refers}, Goes.{Shared, Goes}, Waits.{Setting, frame_of, Mode, Quiet, ValueOf, AtPlace, Around, Reach, AfterJumps, BeginWaits, NextWaits, ItemWaits, PendingWaits, RowsOf, Rows, Ahead, Designates, Waiting}, Steps.jumped}
+use Rattle.lil_match.specs.{Homes.{word_for, Refers}, Goes.{Shared, Goes}, Waits.{Setting, frame_of, Mode, Quiet, ValueOf, AtPlace, Around, Reach, AfterJumps, BeginWaits, NextWaits, ItemWaits, PendingWaits, SpellingWaits, RowsOf, Rows, Ahead, Designates, Waiting}, Steps.jumped}
 use Rattle.lil_laws_place.specs.{Elements.{variable_goes, handed_goes, held_goes, field_goes, element_goes, follow_goes, pointed_goes, part_goes, index_by_goes, index_at_goes}, Opens.{along_goes, along_at_goes, high_goes}}
-use Rattle.lil_laws_expr.specs.{Expressions.{constant_goes, taken_goes, one_goes, two_goes, short_begins, apply_goes, get_goes, one_of_goes, left_goes, right_goes, short_of_goes, apply_of_goes}, Sets.{with_goes, with_span_goes, with_member_goes, member_of_goes, with_members_goes, members_from_goes, members_to_goes}}
+use Rattle.lil_laws_expr.specs.{Expressions.{constant_goes, routine_goes, taken_goes, one_goes, two_goes, short_begins, apply_goes, get_goes, one_of_goes, left_goes, right_goes, short_of_goes, apply_of_goes}, Sets.{with_goes, with_span_goes, with_member_goes, member_of_goes, with_members_goes, members_from_goes, members_to_goes}}
 use Rattle.lil_laws_stmt.specs.{Tasks.{copy_goes, copy_to_goes, copy_from_goes, assign_goes, set_goes, store_goes}, Requests.{request_goes, passing_goes, pass_goes, pass_array_goes, serve_goes}, Strings.{text_goes, text_to_goes}, News.{new_goes, new_at_goes}, Withs.{inside_goes, hold_goes, holding_goes}}
-use Rattle.lil_laws_stmt.specs.{Control.{if_goes, choose_goes, while_goes, turn_goes, repeat_goes, until_goes, again_goes, loop_goes, looping_goes}, Changes.{change_goes, change_by_goes, change_at_goes}, Exits.exit_goes, Calls.{call_goes, invoke_goes, argument_goes, given_goes, given_place_goes, given_all_goes, given_array_goes}, Enters.enter_goes, Members.{member_goes, member_by_goes, member_at_goes}, Ends.{halt_goes, return_goes, end_goes, returning_goes, answer_goes, ended_goes}}
+use Rattle.lil_laws_stmt.specs.{Control.{if_goes, choose_goes, while_goes, turn_goes, repeat_goes, until_goes, again_goes, loop_goes, looping_goes}, Changes.{change_goes, change_by_goes, change_at_goes}, Exits.exit_goes, Calls.{call_goes, invoke_goes}, Arguments.{argument_goes, given_goes, given_place_goes, given_all_goes, given_array_goes}, Values.{calling_goes, call_value_goes, invoke_value_goes}, Spelled.{spelling_goes}, Enters.enter_goes, Members.{member_goes, member_by_goes, member_at_goes}, Ends.{halt_goes, return_goes, end_goes, returning_goes, answer_goes, ended_goes}}
 use Rattle.lil_laws_stmt.specs.{Allocations.{allocate_goes, allocate_by_goes, allocate_at_goes, deallocate_at_goes}, Cases.{case_goes, pick_goes}, Fors.{for_goes, start_goes, limit_goes, next_goes}, Begins.begin_goes}
 
 value_quiet : (k : Kind) → ValueOf k ≡ Quiet → ⊥
@@ -46,10 +46,11 @@ module _ (ctx : Setting) where
     scalar_step v (AllocateAt false place) kind fits refers below is r = allocate_at_goes ctx s k m c a shared place v kind fits below is r
     scalar_step v (AllocateAt true place) kind fits refers below is r = deallocate_at_goes ctx s k m c a shared place v kind fits below is r
     scalar_step v (Pass (Requested q) j done left) kind fits refers below is r = pass_goes ctx s k m c a shared q j done left v kind fits below is r
-    scalar_step v (Pass (Called x n) j done left) kind fits refers below is r = given_goes ctx s k m c a shared x n j done left v kind fits refers below is r
-    scalar_step v (PassPlace (Called x n) done left) kind fits refers below is r = absurd (value_place kind r.of r.mode)
-    scalar_step v (PassAll (Called x n) done left) kind fits refers below is r = absurd (value_place kind r.of r.mode)
-    scalar_step v (PassArray (Called x n) high done left) kind fits refers below is r = absurd (value_place kind r.of r.mode)
+    scalar_step v (Pass (Called x) j done left) kind fits refers below is r = given_goes ctx s k m c a shared x j done left v kind fits refers below is r
+    scalar_step v (PassPlace (Called x) done left) kind fits refers below is r = absurd (value_place kind r.of r.mode)
+    scalar_step v (PassAll (Called x) done left) kind fits refers below is r = absurd (value_place kind r.of r.mode)
+    scalar_step v (PassArray (Called x) high done left) kind fits refers below is r = absurd (value_place kind r.of r.mode)
+    scalar_step v (Calling given) kind fits refers below is r = calling_goes ctx s k m c a shared given v kind fits refers below is r
     scalar_step v (Returning to) kind fits refers below is r = returning_goes ctx s k m c a shared to v kind fits refers below is r
     scalar_step v (Choose first second) kind fits refers below is r = choose_goes ctx s k m c a shared first second v kind fits below is r
     scalar_step v (Turn e body) kind fits refers below is r = turn_goes ctx s k m c a shared e body v kind fits below is r
@@ -73,10 +74,11 @@ module _ (ctx : Setting) where
     place_step place (AllocateBy back e) d below has r = allocate_by_goes ctx s k m c a shared back e place d below has r
     place_step place (TextTo cs) d below has r = text_to_goes ctx s k m c a shared cs place d below has r
     place_step place (PassArray (Requested q) high done left) d below has r = pass_array_goes ctx s k m c a shared q high done left place d below has r
-    place_step place (PassPlace (Called x n) done left) d below has r = given_place_goes ctx s k m c a shared x n done left place d below has r
-    place_step place (PassAll (Called x n) done left) d below has r = given_all_goes ctx s k m c a shared x n done left place d below has r
-    place_step place (PassArray (Called x n) high done left) d below has r = given_array_goes ctx s k m c a shared x n high done left place d below has r
-    place_step place (Pass (Called x n) j done left) d below has r = absurd (value_place r.from d (sym r.mode))
+    place_step place (PassPlace (Called x) done left) d below has r = given_place_goes ctx s k m c a shared x done left place d below has r
+    place_step place (PassAll (Called x) done left) d below has r = given_all_goes ctx s k m c a shared x done left place d below has r
+    place_step place (PassArray (Called x) high done left) d below has r = given_array_goes ctx s k m c a shared x high done left place d below has r
+    place_step place (Pass (Called x) j done left) d below has r = absurd (value_place r.from d (sym r.mode))
+    place_step place (Calling given) d below has r = absurd (value_place r.kind d (sym r.mode))
     place_step place (Hold body) d below has r = hold_goes ctx s k m c a shared body place d below has r
     place_step place (MemberBy out j e) d below has r = member_by_goes ctx s k m c a shared out j e place d below has r
     place_step place (ChangeBy down j e) d below has r = change_by_goes ctx s k m c a shared down j e place d below has r
@@ -102,6 +104,8 @@ module _ (ctx : Setting) where
     expression_step (WithSpan e kind f g) r = with_span_goes ctx s k m c a shared e kind f g r
     expression_step (Invoke x n kind given) r = invoke_goes ctx s k m c a shared x n kind given r
     expression_step (High n x) r = high_goes ctx s k m c a shared n x r
+    expression_step (Routine x n) r = routine_goes ctx s k m c a shared x n r
+    expression_step (InvokeValue e kind given) r = invoke_value_goes ctx s k m c a shared e kind given r
 
     task_step : (t : Task) → ItemWaits ctx (Perform t) k (RowsOf k) Quiet m.place m.stack c a → Goes ctx s (Perform t ∷ k) m (c + 32)
     task_step (Do (Assign d kind e)) r = assign_goes ctx s k m c a shared d kind e r
@@ -123,10 +127,12 @@ module _ (ctx : Setting) where
     task_step (Do Return) r = return_goes ctx s k m c a shared r
     task_step (Do (Answer kind e)) r = answer_goes ctx s k m c a shared kind e r
     task_step (Do (Call x n given)) r = call_goes ctx s k m c a shared x n given r
+    task_step (Do (CallValue e given)) r = call_value_goes ctx s k m c a shared e given r
     task_step (Do (For x kind e f step body)) r = for_goes ctx s k m c a shared x kind e f step body r
     task_step (Passing (Requested q) done NoMore) r = serve_goes ctx s k m c a shared q done r
     task_step (Passing (Requested q) done (Also x left)) r = passing_goes ctx s k m c a shared q done x left r
-    task_step (Passing (Called x n) done left) r = absurd r.part
+    task_step (Passing (Called x) done left) r = absurd r.part
+    task_step (Spelling q cs todo done left) r = absurd r.part
     task_step (Until body e) r = until_goes ctx s k m c a shared body e r
     task_step (Looping body) r = looping_goes ctx s k m c a shared body r
     task_step (Turns x kind z step left body) r =
@@ -179,27 +185,31 @@ module _ (ctx : Setting) where
   item_step s m c a shared (Value (Texts cs)) k r = absurd r.part
   item_step s m c a shared (Evaluate e) k r = expression_step s k m c a shared e r
   item_step s m c a shared (PlaceOf d) k r = designator_step s k m c a shared d r
-  item_step s m c a shared (Fill (Pass (Called x n) j done left)) k r = absurd (value_quiet r.from (sym r.mode))
-  item_step s m c a shared (Fill (PassPlace (Called x n) done left)) k r = absurd (place_quiet r.of (sym r.mode))
-  item_step s m c a shared (Fill (PassAll (Called x n) done left)) k r = absurd (place_quiet r.of (sym r.mode))
-  item_step s m c a shared (Fill (PassArray (Called x n) high done left)) k r = absurd (place_quiet r.of (sym r.mode))
+  item_step s m c a shared (Fill (Pass (Called x) j done left)) k r = absurd (value_quiet r.from (sym r.mode))
+  item_step s m c a shared (Fill (PassPlace (Called x) done left)) k r = absurd (place_quiet r.of (sym r.mode))
+  item_step s m c a shared (Fill (PassAll (Called x) done left)) k r = absurd (place_quiet r.of (sym r.mode))
+  item_step s m c a shared (Fill (PassArray (Called x) high done left)) k r = absurd (place_quiet r.of (sym r.mode))
+  item_step s m c a shared (Fill (Calling given)) k r = absurd (value_quiet r.kind (sym r.mode))
   item_step s m c a shared (Fill o) k r = absurd r.part
   item_step s m c a shared (Perform t) k r = task_step s k m c a shared t r
   item_step s m c a shared _ _ r = absurd r.then
 
   -- a call whose next argument is at hand, or which has them all
-  pending_step : (s : Source) (m : State) (c : ℕ) (a : Around) → Shared ctx s m → (x n : ℕ) (done : List Datum) (left : Arguments) (k : List Item)
-      → PendingWaits ctx x n done left (RowsOf k) Quiet m.place m.stack c a → Goes ctx s (Perform (Passing (Called x n) done left) ∷ k) m (c + 32)
-  pending_step s m c a shared x n done NoMore k r = enter_goes ctx s k m c a shared x n done r
-  pending_step s m c a shared x n done (Also y left) k r = argument_goes ctx s k m c a shared x n done y left r
+  pending_step : (s : Source) (m : State) (c : ℕ) (a : Around) → Shared ctx s m → (x : Callee) (done : List Datum) (left : Arguments) (k : List Item)
+      → PendingWaits ctx x done left (RowsOf k) Quiet m.place m.stack c a → Goes ctx s (Perform (Passing (Called x) done left) ∷ k) m (c + 32)
+  pending_step s m c a shared x done NoMore k r = enter_goes ctx s k m c a shared x done r
+  pending_step s m c a shared x done (Also y left) k r = argument_goes ctx s k m c a shared x done y left r
 
   -- THE STEP
   pub each_step : (s : Source) (m : State) (c : ℕ) (a : Around) → Shared ctx s m → (k : List Item)
       → Ahead ctx k Quiet m.place m.stack c a → Goes ctx s k m (c + 32)
   each_step s m c a shared [] r = ended_goes ctx s m c a shared r
-  each_step s m c a shared (Perform (Passing (Called x n) done left) ∷ k) r =
-      from_there s m c a shared (Perform (Passing (Called x n) done left) ∷ k) (PendingWaits ctx x n done left (RowsOf k)) Quiet m.stack r
-      (pending_step s (going m r.start m.stack) r.later a shared x n done left k r.there)
+  each_step s m c a shared (Perform (Passing (Called x) done left) ∷ k) r =
+      from_there s m c a shared (Perform (Passing (Called x) done left) ∷ k) (PendingWaits ctx x done left (RowsOf k)) Quiet m.stack r
+      (pending_step s (going m r.start m.stack) r.later a shared x done left k r.there)
+  each_step s m c a shared (Perform (Spelling (Called x) cs todo done left) ∷ k) r =
+      from_there s m c a shared (Perform (Spelling (Called x) cs todo done left) ∷ k) (SpellingWaits ctx x cs todo done left (RowsOf k)) Quiet m.stack r
+      (spelling_goes ctx s k (going m r.start m.stack) r.later a shared x cs todo done left r.there)
   each_step s m c a shared (i ∷ k) r =
       from_there s m c a shared (i ∷ k) (ItemWaits ctx i k (RowsOf k)) Quiet m.stack r
       (item_step s (going m r.start m.stack) r.later a shared i k r.there)

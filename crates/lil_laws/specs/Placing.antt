@@ -5,7 +5,7 @@ use Rattle.std.proofs.lemmas.{Bool.{le-ltb, lt-ltb}, Option.slice_get-map}
 use Rattle.lil_resolved.specs.{Kinds.{zero_of, Shape, words, is_there, all_words, part_at, offset, offsets_from, shape_at}, Resolved.Resolved}
 use Rattle.lil_meaning.specs.Items.{Root, Global, Local, Object, loaded_at, variables_of, first_shape, zero_in, fresh_cells}
 use Rattle.lil_frames.specs.Words.{zeros, cleared}
-use Rattle.lil_match.specs.{Parts.{yes, no, part_fits, word_long}, Homes.{zero_is, Owner, Of, Own, Fixed, Free, Home, Mem}, Splices.{spliced_length, spliced_before, spliced_there, zeros_length, zeros_word}}
+use Rattle.lil_match.specs.{Parts.{yes, no, part_fits, word_long}, Homes.{zero_is, Owner, Of, Own, Fixed, Free, Listed, Home, Mem}, Splices.{spliced_length, spliced_before, spliced_there, zeros_length, zeros_word}}
 use Rattle.lil_laws.specs.Loading.{Compiled, text_of, data_of, data_end, entry_for, table_from, numbers_from, one_placed, data_placed}
 
 -- the first word of a module's data
@@ -225,7 +225,7 @@ has_data store base (p ∷ os) room =
     one_more store base p os here more (has_data (one_placed store base p) (base + data_of p) os more)
 
 -- ---- the home where the first body begins: data, then its frame of so many words, then room
-module _ (targets : List Shape) (os : List Compiled) (size : ℕ) (store : List ℕ) where
+module _ (listed : Listed) (os : List Compiled) (size : ℕ) (store : List ℕ) where
   abbrev pub end : ℕ
   end = data_end 1 os
 
@@ -233,7 +233,7 @@ module _ (targets : List Shape) (os : List Compiled) (size : ℕ) (store : List 
   owner_at a = cond (nat_lt a 1) (Free end) (cond (nat_lt a end) (owner_by (root_at 1 os 1 a)) (cond (nat_lt a (end + size)) Own (Free end)))
 
   abbrev pub home : Home
-  home = record { base = place_of os; shape = first_shape (map text_of os) (numbers_from 0 os); owner = owner_at; shadow = λ a. get_or store a 0; targets = targets; workspaces = [] }
+  home = record { base = place_of os; shape = first_shape (map text_of os) (numbers_from 0 os); owner = owner_at; shadow = λ a. get_or store a 0; listed = listed; workspaces = [] }
 
   pub above : 1 ≤ data_end 1 os
   above = end_above 1 os

@@ -3,9 +3,9 @@ use Rattle.std.proofs.Common.{◌≡◌, ◌⊎◌, inl, inr, ℕ, zero, suc, Bo
 use Rattle.std.specs.Prelude.{ℤ, pos, map, slice_get}
 use Rattle.lil_base.specs.{Words.{Cardinal, between}, declared.fault.{TrapKind.TrapKind, TrapAt.TrapAt}}
 use Rattle.lil_base.specs.declared.request.Request as request
-use Rattle.lil_resolved.specs.{Kinds.{Kind, OfWhole, nat_of, Scalar, ToObject, within, value_with, ordinal_of}, Resolved.{Named, OfLevel, Designator, Variable, Handed, Along, Held, Expression, Taken, High, Arguments, NoMore, Also, ByValue, OfPlace, OfAll, OfArray, OfText, OfOpened, Statement, Exit, Statements, Procedure, procedure_by, Resolved, counted_as}}
-use Rattle.lil_meaning.specs.{Items.{Place, got, loaded_at, Receiver, Requested, Called, Datum, Scalars, Places, Hole, Get, AlongAt, StoreAt, ChangeAt, OneOf, RightOf, ApplyTo, Pass, Returning, End, Pick, Task, Do, Passing, Item, Value, Evaluate, PlaceOf, Fill, Perform, Activation, Level, Phase, Going, Closing, Source}, Need.HasCalls, World.{World, Given, serve, closing}}
-use Rattle.lil_meaning.specs.Steps.{next, end_reached, activation_result, by_phase, first, given, fill, filled, filled_place, pointed, performed, did, entered, owner_of, procedures_of, current, turned_at, turned_with, turned_on, variable_place, array_of, indexed, measured, handed_on, picked, allocated, found_at, placed, received, passed_on, evaluated, answered, applied, one_applied, function_value, chosen, stored_with, value_of, changed, whole_of, given_of, level_of, over, left_by, leave}
+use Rattle.lil_resolved.specs.{Kinds.{Kind, OfWhole, nat_of, Scalar, ToObject, ToProcedure, Nil, within, value_with, ordinal_of}, Resolved.{Named, OfLevel, Designator, Variable, Handed, Along, Held, Expression, Taken, High, Arguments, NoMore, Also, ByValue, OfPlace, OfAll, OfArray, OfText, OfOpened, Spelled, Statement, Exit, Statements, Procedure, procedure_by, Resolved, counted_as}}
+use Rattle.lil_meaning.specs.{Items.{Place, got, loaded_at, Receiver, Requested, callee_number, callee_owner, Called, Datum, Scalars, Places, Hole, Get, AlongAt, StoreAt, ChangeAt, OneOf, RightOf, ApplyTo, Pass, Returning, End, Pick, Task, Do, Passing, Spelling, Item, Value, Evaluate, PlaceOf, Fill, Perform, Activation, Level, Phase, Going, Closing, Source}, Need.{HasCalls, awaits_value}, World.{World, Given, serve, closing}}
+use Rattle.lil_meaning.specs.Steps.{next, value_called, spelled, end_reached, activation_result, by_phase, first, given, fill, filled, filled_place, pointed, performed, did, entered, owner_of, procedures_of, current, turned_at, turned_with, turned_on, variable_place, array_of, indexed, measured, handed_on, picked, allocated, found_at, placed, received, passed_on, evaluated, answered, applied, one_applied, function_value, chosen, stored_with, value_of, changed, whole_of, given_of, level_of, over, left_by, leave}
 use Rattle.lil_meaning.specs.Runs.{after}
 use Rattle.lil_meaning.specs.Items as items
 
@@ -66,6 +66,11 @@ module _ (library : List Resolved) (s : Source) where
   allocated_serves false n p k = still refl refl refl
   allocated_serves true n p k = still refl refl refl
 
+  value_serves : (v : Scalar) (given : Arguments) (k : List Item) → Serves library s (value_called library v given k s)
+  value_serves (ToProcedure m p) given k = still refl refl refl
+  value_serves Nil given k = still refl refl refl
+  value_serves _ given k = still refl refl refl
+
   filled_serves : (h : Hole) (v : Scalar) (k : List Item) → Serves library s (filled library h v k s)
   filled_serves (items.IndexAt p kind) v k = choice_serves s (within kind v) _ _ (still refl refl refl) (still refl refl refl)
   filled_serves (AlongAt p high) v k = choice_serves s (between (pos 0) (ordinal_of v) (pos high)) _ _ (still refl refl refl) (still refl refl refl)
@@ -81,6 +86,7 @@ module _ (library : List Resolved) (s : Source) where
   filled_serves (items.AllocateAt back p) v k = choice_serves s (within (OfWhole Cardinal) v) _ _ (allocated_serves back (nat_of (ordinal_of v)) p k) (still refl refl refl)
   filled_serves (Pass r kind done left) v k = choice_serves s (within kind v) _ _ (still refl refl refl) (still refl refl refl)
   filled_serves (Returning kind) v k = choice_serves s (within kind v) _ _ (still refl refl refl) (still refl refl refl)
+  filled_serves (items.Calling given) v k = value_serves v given k
   filled_serves (Pick arms) v k = picked_serves (chosen arms (ordinal_of v)) k
   filled_serves _ v k = still refl refl refl
 
@@ -108,9 +114,9 @@ module _ (library : List Resolved) (s : Source) where
 
   received_serves : (r : Receiver) (done : List Datum) (k : List Item) → Serves library s (received library r done k s)
   received_serves (Requested r) done k = record { world = inr (inl (r, map (given_of s.cells) done, refl)); first = λ none. none; same = λ bare none. refl }
-  received_serves (Called p n) done k =
-      let here : ℕ = owner_of (slice_get s.activations (current k)) in
-      entered_serves (procedure_by (procedures_of (loaded_at library s.loaded here)) p) _ done k (λ bare. ap (λ (ps : List Procedure). procedure_by ps p) (bare s.loaded here) ∙ none_by p)
+  received_serves (Called q) done k =
+      let owner : ℕ = callee_owner (owner_of (slice_get s.activations (current k))) q in
+      entered_serves (procedure_by (procedures_of (loaded_at library s.loaded owner)) (callee_number q)) _ done k (λ bare. ap (λ (ps : List Procedure). procedure_by ps (callee_number q)) (bare s.loaded owner) ∙ none_by (callee_number q))
 
   handed_serves : (o : Option (Place × ℕ)) (r : Receiver) (done : List Datum) (left : Arguments) (k : List Item) → Serves library s (handed_on o r done left k s)
   handed_serves None r done left k = still refl refl refl
@@ -132,6 +138,11 @@ module _ (library : List Resolved) (s : Source) where
   passed_serves r done (Also (OfArray copied d high) left) k = still refl refl refl
   passed_serves r done (Also (OfText cs) left) k = still refl refl refl
   passed_serves r done (Also (OfOpened copied n x) left) k = handed_serves (array_of s n x) r done left k
+  passed_serves r done (Also (Spelled cs count) left) k = still refl refl refl
+
+  spelled_serves : (r : Receiver) (cs : List ℕ) (todo : ℕ) (done : List Datum) (left : Arguments) (k : List Item) → Serves library s (spelled r cs todo done left k s)
+  spelled_serves r cs zero done left k = still refl refl refl
+  spelled_serves r cs (suc todo) done left k = still refl refl refl
 
   ended_serves : (o : Option Kind) (k : List Item) → Serves library s (end_reached library o k s)
   ended_serves None k = still refl refl refl
@@ -140,6 +151,7 @@ module _ (library : List Resolved) (s : Source) where
   performed_serves : (t : Task) (k : List Item) → Serves library s (performed library t k s)
   performed_serves (Do t) k = did_serves t k
   performed_serves (Passing r done left) k = passed_serves r done left k
+  performed_serves (Spelling r cs todo done left) k = spelled_serves r cs todo done left k
   performed_serves (End a) k = ended_serves (activation_result library s.loaded (slice_get s.activations a)) k
   performed_serves (items.Turns x kind z step left body) k = turned_serves x kind z step left body k
   performed_serves _ k = still refl refl refl
@@ -202,10 +214,12 @@ pub after_same : (library : List Resolved) → HasNone library → (n : ℕ) (s 
 after_same library bare zero s none = refl
 after_same library bare (suc n) s none = let one = next_serves library s in after_same library bare n (next library s) (one.first none) ∙ one.same bare none
 
--- and no call is at hand
-pub none_called : (library : List Resolved) → HasNone library → (t : Source) → length t.activations ≤ 1 → HasCalls library t → ⊥
-none_called library bare t few (inl more) = omega (arith, few, more)
-none_called library bare t few (inr c) = none_there (sym (ap (λ (ps : List Procedure). procedure_by ps c.number) (bare t.loaded (owner_of (slice_get t.activations (current t.items)))) ∙ none_by c.number) ∙ c.there)
+-- and no call is at hand, but where the value of what is called is to come
+pub none_called : (library : List Resolved) → HasNone library → (t : Source) → length t.activations ≤ 1 → awaits_value t.items ≡ false → HasCalls library t → ⊥
+none_called library bare t few none (inl more) = omega (arith, few, more)
+none_called library bare t few none (inr (inr awaits)) = let clash : false ≡ true = sym none ∙ awaits in cc
+none_called library bare t few none (inr (inl c)) =
+    none_there (sym (ap (λ (ps : List Procedure). procedure_by ps (callee_number c.callee)) (bare t.loaded (callee_owner (owner_of (slice_get t.activations (current t.items))) c.callee)) ∙ none_by (callee_number c.callee)) ∙ c.there)
   where
     none_there : None ≡ Some c.its → ⊥
     none_there e = cc

@@ -3,14 +3,14 @@ use Rattle.std.proofs.Common.{◌≡◌, ℕ, zero, suc, ◌+◌, ◌-◌, ◌*�
 use Rattle.std.specs.Prelude.{slice_get, option_map}
 use Rattle.std.specs.List.{list_any}
 use Rattle.std.proofs.lemmas.{Bool.{le-ltb, ne_eqb}, Option.none-some}
-use Rattle.lil_resolved.specs.{Kinds.{Shape, all_words, shape_by, shape_at}, Resolved.{Resolved, procedure_by, outline_of}, Sizes.frame_words}
+use Rattle.lil_resolved.specs.{Kinds.{all_words, shape_by, shape_at}, Resolved.{Resolved, procedure_by, outline_of}, Sizes.frame_words}
 use Rattle.lil_meaning.specs.{Items.{loaded_at, variables_of, targets_of, Item, Perform, End, Activation, Source, doing}, World.World, Need.frame_of, Steps.{owner_of, procedure_of, result_by, procedures_of, name_of}, Runs.{begun, bodies, body_of, body_activations, src}}
 use Rattle.lil_asm.specs.{declared.instr.Instr.TheVariants.{Rtn}, Stretches.{stretch, decoded_inside}}
 use Rattle.lil_mcode.specs.{declared.machine.Event.TheVariants.Went, Table.{State, enter_row, fetched, performed}}
 use Rattle.lil_frames.specs.Words.{zeros, cleared}
 use Rattle.lil_asm.specs.declared.instr.Instr.TheVariants.{Ent}
-use Rattle.lil_table.specs.Rows.{IsAt, framed, in_procedure, layout_of}
-use Rattle.lil_match.specs.{Goes.{IsKnown, EachComes, HasLocals, EachLocal, Shared}, Running.{Run, mrun, running, advanced}, Parts.no, Homes.Home, Waits.{Frame, is_of, Setting, Quiet, outside, RowsOf, Rows, Ahead, Behind}, Steps.{advances, at_once, rows_ahead}, Orders.instr_within, Splices.{spliced_length, spliced_before, zeros_length}}
+use Rattle.lil_table.specs.Rows.{lone_number, IsAt, framed, in_procedure, layout_of}
+use Rattle.lil_match.specs.{Goes.{IsKnown, EachComes, HasLocals, EachLocal, Shared}, Running.{Run, mrun, running, advanced}, Parts.no, Homes.{Listed, Home}, Waits.{Frame, is_of, Setting, Quiet, outside, RowsOf, Rows, Ahead, Behind}, Steps.{advances, at_once, rows_ahead}, Orders.instr_within, Splices.{spliced_length, spliced_before, zeros_length}}
 use Rattle.lil_laws_stmt.specs.Control.{body_rows}
 use Rattle.lil_laws.specs.{Loading.{Compiled, text_of, data_end, entry_for, table_from, numbers_from, data_placed, image}, Placing.{place_from, variable_from, text_at, table_there, variable_offset, HasData, data_length, has_data, string_fixed, strings_low, home, above, owner_own, owner_free, mem}}
 use Rattle.lil_laws.specs.{Entries.{body_within, body_apart, entry_row}, Whole.{Unlimited, Agrees, limits, still_agrees, follows}, Reaching.{Reaches, reaches_before, reaches}}
@@ -95,13 +95,20 @@ module _ (os : List Compiled) where
           then = rows_of (suc a) c bs;
         })
 
-  -- their pointers point to the same
-  abbrev pub Pointing : List Shape → Type 0
-  Pointing targets = (i : ℕ) (o : Compiled) → slice_get os i ≡ Some o → o.text.targets ≡ targets
+  -- the module lists what the home says
+  pub record IsListed (listed : Listed) (i : ℕ) (o : Compiled) : Type 0 where
+    pub targets : o.text.targets ≡ listed.targets
+    pub signatures : o.text.signatures ≡ listed.signatures
+    pub procedures : map outline_of o.text.procedures ≡ listed.procedures
+    pub number : suc i ≡ listed.number
+    pub lone : suc i ≡ lone_number
 
-  module _ (targets : List Shape) (same : Pointing targets) (all : List Activation) (size : ℕ) (store : List ℕ) (room : data_end 1 os ≤ 65535) (placed : HasData 1 os store) where
+  abbrev pub Listing : Listed → Type 0
+  Listing listed = (i : ℕ) (o : Compiled) → slice_get os i ≡ Some o → IsListed listed i o
+
+  module _ (listed : Listed) (same : Listing listed) (all : List Activation) (size : ℕ) (store : List ℕ) (room : data_end 1 os ≤ 65535) (placed : HasData 1 os store) where
     abbrev h : Home
-    h = home targets os size store
+    h = home listed os size store
 
     known : (a : ℕ) (b : Body os) → slice_get all a ≡ Some (record { owner = suc b.index; procedure = 0; outer = None; slots = [] }) → IsKnown library loaded (table_from 1 os) all h (frame_for a b)
     known a b runs = record {
@@ -138,10 +145,14 @@ module _ (os : List Compiled) where
             ∙ ap (λ (n : ℕ). variable_from n b.its.text.variables x) (let e : place_from 1 os b.index ≡ place_from 1 os b.index + 0 = omega arith in e)
             ∙ variable_offset b.its.text.variables (place_from 1 os b.index) 0 x o offset,
       );
-      strings = λ i less. (string_fixed targets os size store b.index i b.its b.there less, placed.strings_at b.index b.its b.there i less);
-      inside = omega (arith, strings_low targets os size store b.index b.its b.there, room);
-      targets = same b.index b.its b.there;
-      own_targets = ap targets_of (text b) ∙ same b.index b.its b.there;
+      strings = λ i less. (string_fixed listed os size store b.index i b.its b.there less, placed.strings_at b.index b.its b.there i less);
+      inside = omega (arith, strings_low listed os size store b.index b.its b.there, room);
+      targets = (same b.index b.its b.there).targets;
+      own_targets = ap targets_of (text b) ∙ (same b.index b.its b.there).targets;
+      signatures = (same b.index b.its b.there).signatures;
+      outlines = (same b.index b.its b.there).procedures;
+      here = (same b.index b.its b.there).number;
+      number = sym (same b.index b.its b.there).lone;
     }
 
     each_comes : (a : ℕ) (bs : List (Body os)) → 0 < a → ((i : ℕ) → slice_get all (a + i) ≡ slice_get (body_activations (map number bs)) i)
@@ -169,7 +180,7 @@ module _ (os : List Compiled) where
     )
 
 -- these bodies run in their order, and the first one's frame has room
-module _ (os : List Compiled) (targets : List Shape) (same : Pointing os targets) (b : Body os) (bs : List (Body os)) (room : data_end 1 os + frame_words [] b.its.text.body ≤ 65535) where
+module _ (os : List Compiled) (listed : Listed) (same : Listing os listed) (b : Body os) (bs : List (Body os)) (room : data_end 1 os + frame_words [] b.its.text.body ≤ 65535) where
   abbrev pub begins : State
   begins = image os (suc b.index) (map (number os) bs)
 
@@ -215,9 +226,9 @@ module _ (os : List Compiled) (targets : List Shape) (same : Pointing os targets
   placed =
       let old = has_data (zeros 65536) 1 os data_fits in
       record {
-        zero_at = λ n o e i less. data_stays (place_from 1 os n + i) (omega (arith, strings_low targets os size entered n o e, less)) ∙ old.zero_at n o e i less;
+        zero_at = λ n o e i less. data_stays (place_from 1 os n + i) (omega (arith, strings_low listed os size entered n o e, less)) ∙ old.zero_at n o e i less;
         strings_at = λ n o e i less.
-            data_stays (place_from 1 os n + (all_words o.text.variables + i)) (omega (arith, strings_low targets os size entered n o e, less)) ∙ old.strings_at n o e i less;
+            data_stays (place_from 1 os n + (all_words o.text.variables + i)) (omega (arith, strings_low listed os size entered n o e, less)) ∙ old.strings_at n o e i less;
       }
 
   abbrev order : List ℕ
@@ -230,11 +241,11 @@ module _ (os : List Compiled) (targets : List Shape) (same : Pointing os targets
   items = bodies (map text_of os) (numbers_from 0 os) 0 order
 
   abbrev pub ctx : Setting
-  ctx = setting os (body_activations order) (home targets os size entered) (frame_for os 0 b) (frames os 1 bs)
+  ctx = setting os (body_activations order) (home listed os size entered) (frame_for os 0 b) (frames os 1 bs)
 
   shared : (w : World) → Shared ctx (first w) entered_at
   shared w = record {
-    mem = mem targets os size entered (omega (arith, room)) entered_length placed;
+    mem = mem listed os size entered (omega (arith, room)) entered_length placed;
     heap = record { born = λ o. refl; above = λ o there. cc; apart = λ o p there. cc; known = refl; clear = λ w less. omega (arith, less); distinct = λ w v less. omega (arith, less); rest = omega arith };
     unborn = λ a x past. refl;
     program = record { table_is = refl; known = table_there 1 os b.index b.its b.there; piece = record { is = refl; within = body_within b.its }; running_is = refl; marked_is = refl };
@@ -243,15 +254,15 @@ module _ (os : List Compiled) (targets : List Shape) (same : Pointing os targets
       base_is = refl;
       limit_is = refl;
       bodies_are = numbers 1 bs;
-      known = known os targets same (body_activations order) size entered (omega (arith, room)) placed 0 b refl;
+      known = known os listed same (body_activations order) size entered (omega (arith, room)) placed 0 b refl;
       callers = tt;
-      comes = each_comes os targets same (body_activations order) size entered (omega (arith, room)) placed 1 bs (omega arith) (λ i. ap (slice_get (body_activations order)) (let e : 1 + i ≡ suc i = omega arith in e));
-      stands = (record { mark = omega arith; top_is = omega arith; own = λ i free l. owner_own targets os size entered (end + i) (omega arith) (omega (arith, l)); mine = λ i l. inl (owner_own targets os size entered (end + i) (omega arith) (omega (arith, l))) }, refl);
+      comes = each_comes os listed same (body_activations order) size entered (omega (arith, room)) placed 1 bs (omega arith) (λ i. ap (slice_get (body_activations order)) (let e : 1 + i ≡ suc i = omega arith in e));
+      stands = (record { mark = omega arith; top_is = omega arith; own = λ i free l. owner_own listed os size entered (end + i) (omega arith) (omega (arith, l)); mine = λ i l. inl (owner_own listed os size entered (end + i) (omega arith) (omega (arith, l))) }, refl);
       links = refl;
-      locals = each_bare os targets same (body_activations order) size entered (omega (arith, room)) placed 0 (b ∷ bs) (λ i. ap (slice_get (body_activations order)) (let e : 0 + i ≡ i = omega arith in e));
+      locals = each_bare os listed same (body_activations order) size entered (omega (arith, room)) placed 0 (b ∷ bs) (λ i. ap (slice_get (body_activations order)) (let e : 0 + i ≡ i = omega arith in e));
       handed = (λ y o t at. absurd (none-some o at), λ y o copied t at. absurd (none-some o at), tt);
-      room = λ a from below. owner_free targets os size entered a (omega (arith, from));
-      based = above targets os size entered;
+      room = λ a from below. owner_free listed os size entered a (omega (arith, from));
+      based = above listed os size entered;
       low = omega (arith, room);
       high = omega arith;
     };
@@ -279,7 +290,7 @@ module _ (os : List Compiled) (targets : List Shape) (same : Pointing os targets
       )
 
   ahead : Ahead ctx items Quiet b.its.translates.body.start [] 0 (outside (frame_for os 0 b))
-  ahead = rows_ahead ctx items b.its.translates.body.start [] 0 (outside (frame_for os 0 b)) (rows_of os (body_activations order) (home targets os size entered) 0 b bs)
+  ahead = rows_ahead ctx items b.its.translates.body.start [] 0 (outside (frame_for os 0 b)) (rows_of os (body_activations order) (home listed os size entered) 0 b bs)
 
   abbrev pub state_after : World → ℕ → Source
   state_after w n = src (map text_of os) (numbers_from 0 os) (map (number os) (b ∷ bs)) w n

@@ -1,18 +1,19 @@
 -- The rows of expressions: from a matched state the machine comes to a matched state.
 use Rattle.std.proofs.Common.{◌≡◌, ◌≢◌, ℕ, ◌+◌, ◌<◌, ◌≤◌, Bool, true, false, not, cond, ◌==◌, Result, Ok, Err, List, [], ◌∷◌, length, get_or, refl, sym, ap, ◌∙◌, subst, arith}
+use Rattle.std.specs.Prelude.{slice_get}
 use Rattle.std.proofs.lemmas.Bool.{lt-ltb, and_parts, eq-eqb, eqb-true, ne_eqb}
 use Rattle.lil_base.specs.declared.{fault.TrapKind.TrapKind, operator.{OneOp.OneOp, TwoOp.{TwoOp, TheVariants.{Equal, Unequal}}}}
 use Rattle.lil_base.specs.declared.operator.OneOp.TheVariants as one
-use Rattle.lil_resolved.specs.Kinds.{Pointee, Objects, Workspaces, Kind, OfTruth, OfPointer, OfRange, base_of, is_plain, Scalar, Truth, ToObject, ToWorkspace, Nil, is_reference, is_literal, same_reference, within, scalar_word, Word}
-use Rattle.lil_resolved.specs.{Resolved.{Designator, Function, Expression, Constant, Taken, One, Two, Short, Apply, kind_of, is_relation, result_kind, right_kind, function_kind}, Sound.{takes_two, takes_function}}
-use Rattle.lil_meaning.specs.{Items.{Object, Place, got, Scalars, Places, Get, OneOf, LeftOf, RightOf, ShortOf, ApplyTo, Item, Value, Evaluate, Fill, Going, Source}, Steps.{next, answered, with_items, applied, one_applied, function_value, current}}
-use Rattle.lil_asm.specs.declared.instr.Instr.{Instr, TheVariants.Liw}
+use Rattle.lil_resolved.specs.Kinds.{Pointee, Objects, Workspaces, Kind, OfTruth, OfPointer, OfProcedure, OfRange, base_of, is_plain, Scalar, Truth, ToObject, ToWorkspace, ToProcedure, procedure_word, procedure_by, Outline, Signature, Nil, is_reference, is_literal, same_reference, within, scalar_word, Word}
+use Rattle.lil_resolved.specs.{Resolved.{Designator, Function, Expression, Constant, Taken, One, Two, Short, Apply, kind_of, is_relation, result_kind, right_kind, function_kind, Routine}, Sound.{takes_two, takes_function}}
+use Rattle.lil_meaning.specs.{Items.{Activation, Object, Place, got, Scalars, Places, Get, OneOf, LeftOf, RightOf, ShortOf, ApplyTo, Item, Value, Evaluate, Fill, Going, Source}, Steps.{next, answered, with_items, applied, one_applied, function_value, current, module_now, owner_of}}
+use Rattle.lil_asm.specs.declared.instr.Instr.{Instr, TheVariants.{Liw}}
 use Rattle.lil_mcode.specs.{declared.machine.Event.{Event, TheVariants.Went}, Table.{State, mstep, act, going, jump, on_one, and_row, or_row}}
 use Rattle.lil_table.specs.Rows.{IsAt, InstrsAt, access_of, load_code, one_code, two_code, function_code, short_code}
 use Rattle.lil_match.specs.{Goes.{Shared, Goes, Lands}, Running.{running, react}, Parts.yes, Homes.{word_for, Refers, plain_word, plain_refers, refers_base, shape_there}, Waits.{stutter, Setting, frame_of, laid_out, Mode, Quiet, ValueOf, AtPlace, Around, Reach, AfterJumps, Rows, HasPlace, Designates, RightPart, Waiting}}
 use Rattle.lil_match.specs.{Steps.{inside_own, advances, pushes, at_step, at_once, lands_on, goes_none, goes_one, goes_after, goes_more, operand_goes, located_goes, closed, both_trap}, Orders.{instr_within, instrs_order, instrs_within, expression_stands, expression_within}}
 use Rattle.lil_laws_place.specs.{Codes.loads, Elements.place_some, Sets.not_true}
-use Rattle.lil_laws_expr.specs.Operators.{answer_row, Gives, Fits, one_plain, two_plain, right_plain, function_plain, ranged_none, pointer_gives, one_gives, one_fits, two_gives, two_length, two_fits, function_gives, function_fits, function_none, function_length}
+use Rattle.lil_laws_expr.specs.Operators.{answer_row, Gives, Fits, one_plain, two_plain, right_plain, function_plain, ranged_none, procedures_none, pointer_gives, one_gives, one_fits, two_gives, two_length, two_fits, function_gives, function_fits, function_none, function_length}
 
 module _ (ctx : Setting) where
   open ctx use {library, table, home as h}
@@ -72,12 +73,14 @@ module _ (ctx : Setting) where
     literal_word : (v : Scalar) → is_reference v ≡ false → word_for h v ≡ scalar_word v
     literal_word (ToObject o) e = cc
     literal_word (ToWorkspace w) e = cc
+    literal_word (ToProcedure n p) e = cc
     literal_word _ e = refl
 
     literal_refers : (kind : Kind) (v : Scalar) → is_reference v ≡ false → Refers h kind v
     literal_refers (OfRange base low high) v e = literal_refers base v e
     literal_refers (OfPointer (Objects n)) (ToObject o) e = cc
     literal_refers (OfPointer Workspaces) (ToWorkspace w) e = cc
+    literal_refers (OfProcedure n) (ToProcedure i p) e = cc
     literal_refers _ v e = tt
 
     pub constant_goes : (kind : Kind) (v : Scalar) → Waiting ctx (Evaluate (Constant kind v)) Rest Quiet m.place m.stack c a → Goes ctx s (Evaluate (Constant kind v) ∷ k) m (c + 32)
@@ -89,6 +92,37 @@ module _ (ctx : Setting) where
           part = record { kind = kind; fits = (literal kind v row.part.here.fits).0; refers = literal_refers kind v (literal kind v row.part.here.fits).1; below = m.stack; is = ap (λ (w : ℕ). w ∷ m.stack) (sym (literal_word v (literal kind v row.part.here.fits).1)) };
           then = row.then;
         })))
+
+    -- a procedure of the module as a value
+    pub routine_goes : (p n : ℕ) → Waiting ctx (Evaluate (Routine p n)) Rest Quiet m.place m.stack c a → Goes ctx s (Evaluate (Routine p n) ∷ k) m (c + 32)
+    routine_goes p n row =
+        let known = shared.standing.known in
+        let may = row.part.here.may in
+        let now : Source = record s { items = Evaluate (Routine p n) ∷ k; phase = Going } in
+        let own : module_now now ≡ ctx.stack.frame.number =
+        ap (λ (i : ℕ). owner_of (slice_get s.activations i)) (closed ctx k _ _ _ _ _ row.then) ∙ ap (λ (acts : List Activation). owner_of (slice_get acts ctx.stack.frame.activation)) shared.activations_are ∙ known.owner in
+        let w : ℕ = procedure_word ctx.stack.frame.number p in
+        goes_one ctx s (Evaluate (Routine p n) ∷ k) m 31 c (running (going m row.part.end (w ∷ m.stack)) s.world)
+        (advances m s.world _ (at_step ctx m shared.program (Liw w) row.part.end (subst (λ (i : ℕ). IsAt piece m.place (Liw (procedure_word i p)) row.part.end) known.number row.part.here.load) ∙ pushes w row.part.end m (omega (arith, row.part.shallow))))
+        (subst (λ (i : ℕ). Lands ctx Going (with_items now (Value (Scalars (ToProcedure i p)) ∷ k)) (running (going m row.part.end (w ∷ m.stack)) s.world) c) (sym own)
+        (lands_on ctx s m shared (Value (Scalars (ToProcedure ctx.stack.frame.number p)) ∷ k) row.part.end (w ∷ m.stack) c a
+        (once (record {
+          part = record {
+            kind = OfProcedure n;
+            fits = refl;
+            refers = record {
+              here = known.here;
+              low = row.part.here.low;
+              its = may.its;
+              known = ap (λ (xs : List Outline). procedure_by xs p) (sym known.outlines) ∙ may.known;
+              declared = may.declared;
+              same = ap (λ (xs : List Signature). slice_get xs n) (sym known.signatures) ∙ may.same;
+            };
+            below = m.stack;
+            is = refl;
+          };
+          then = row.then;
+        }))))
 
     pub taken_goes : (d : Designator) (kind : Kind) → Waiting ctx (Evaluate (Taken d kind)) Rest Quiet m.place m.stack c a → Goes ctx s (Evaluate (Taken d kind) ∷ k) m (c + 32)
     taken_goes d kind row =
@@ -228,6 +262,7 @@ module _ (ctx : Setting) where
         (pointer_gives own m r.below (word_for h u) (word_for h v) (is ∙ ap (λ (x : List ℕ). word_for h v ∷ x) r.is) to u v
         (same_words to u v r.fits (ap (λ (i : Kind). within i v) (sym kinds) ∙ fits) r.refers (subst (λ (i : Kind). Refers h i v) kinds refers))
         o r.row.did.here.takes)
+    right_goes o (OfProcedure n) u v kind fits refers below is row = absurd (procedures_none o n row.part.row.did.here.takes)
     right_goes o (OfRange part low high) u v kind fits refers below is row = absurd (ranged_none o part low high row.part.row.did.here.takes)
     right_goes o j u v kind fits refers below is row = plain_right o j u v kind refl fits below is row
 

@@ -6,7 +6,7 @@ use Rattle.lil_base.specs.{Words.{Whole, Cardinal, Integer, least, greatest, in_
 use Rattle.lil_base.specs.{declared.operator.TwoOp.TheVariants.{Equal, Unequal, Less, AtMost, Greater, AtLeast, In, Plus, Minus, Times, Slash, Div, Mod}, Sets.{has, set_word}, SetLaws.has_no}
 use Rattle.lil_base.specs.declared.fault.TrapKind.TheVariants as trap
 use Rattle.lil_base.specs.declared.operator.OneOp.TheVariants as one
-use Rattle.lil_resolved.specs.Kinds.{Pointee, Kind, OfWhole, OfTruth, OfCharacter, OfEnumeration, OfSet, OfPointer, OfRange, base_of, is_base, is_ordinal, is_set, is_whole, is_plain, compared_as, shared, covers, Scalar, Truth, Character, Number, SetOf, same_reference, within, scalar_of, scalar_word, ordinal_of, truth_number, truth_of, members_of}
+use Rattle.lil_resolved.specs.Kinds.{Pointee, Kind, OfWhole, OfTruth, OfCharacter, OfEnumeration, OfSet, OfPointer, OfProcedure, OfRange, base_of, is_base, is_ordinal, is_set, is_whole, is_plain, compared_as, shared, covers, Scalar, Truth, Character, Number, SetOf, same_reference, within, scalar_of, scalar_word, ordinal_of, truth_number, truth_of, members_of}
 use Rattle.lil_resolved.specs.{Members.{same_members, included, is_in, united, without, shared_members, unshared}, MemberLaws.{words_equal, word_has, word_included, word_united, word_without, word_shared, word_unshared}, Resolved.{Function, Abs, Cap, Chr, Odd, Ord, Val, is_relation, result_kind, right_kind, function_kind}, Sizes.function_depth}
 use Rattle.lil_resolved.specs.Sound.{takes_one, takes_two, takes_function}
 use Rattle.lil_base.specs.Sets as sets
@@ -74,6 +74,7 @@ pub two_plain : (o : TwoOp) (k : Kind) → takes_two o k ≡ true → is_plain (
 two_plain Equal (OfPointer n) h = refl
 two_plain Unequal (OfPointer n) h = refl
 two_plain o (OfPointer n) h = cc
+two_plain o (OfProcedure n) h = cc
 two_plain o (OfRange part low high) h = cc
 two_plain o k h = by (is_relation o) k refl
   where
@@ -298,6 +299,11 @@ pub ranged_none : (o : TwoOp) (part : Kind) (low high : ℤ) → takes_two o (Of
 ranged_none Equal part low high h = cc
 ranged_none o part low high h = cc
 
+-- or two procedures
+pub procedures_none : (o : TwoOp) (n : ℕ) → takes_two o (OfProcedure n) ≡ true → ⊥
+procedures_none Equal n h = cc
+procedures_none o n h = cc
+
 counted : (n : ℕ) (o : TwoOp) → takes_two o (OfEnumeration n) ≡ true → is_ordinal (OfEnumeration n) ≡ true
 counted n Equal h = h
 counted n Unequal h = h
@@ -328,6 +334,7 @@ module _ (own : Module) (m : State) (below : List ℕ) where
   two_gives u v is o OfCharacter plain takes left right = number_gives own m below u v is o OfCharacter refl takes (λ e. cc) left right
   two_gives u v is o (OfEnumeration n) plain takes left right = number_gives own m below u v is o (OfEnumeration n) (counted n o takes) takes (λ e. cc) left right
   two_gives u v is o (OfPointer n) plain takes left right = absurd (true≢false (sym plain))
+  two_gives u v is o (OfProcedure n) plain takes left right = absurd (true≢false (sym plain))
   two_gives u v is o (OfRange part low high) plain takes left right = absurd (ranged_none o part low high takes)
 
 -- an operator on two values has one or two instructions

@@ -1,7 +1,7 @@
 -- What the instructions do by which code has a place; a value that is tested, and one that is stored.
-use Rattle.lil_resolved.specs.Kinds.{Pointee, OfPointer, stores_value, same_pointer}
+use Rattle.lil_resolved.specs.Kinds.{OfPointer, OfProcedure, stores_value, same_pointer, same_procedures}
 use Rattle.lil_match.specs.Homes.{plain_word, plain_refers, takes_plain}
-use Rattle.lil_match.specs.Ranges.{pointers_same}
+use Rattle.lil_match.specs.Ranges.{pointers_same, procedures_same}
 use Rattle.std.specs.Prelude.{◌||◌}
 use Rattle.std.proofs.Common.{◌≡◌, ℕ, zero, suc, Some, ◌+◌, ◌<◌, ◌≤◌, Bool, true, false, cond, List, [], ◌∷◌, set, refl, sym, ap, ◌∙◌, subst, arith, ◌-◌, ◌++◌, length, get_or, take, drop}
 use Rattle.lil_base.specs.declared.fault.TrapKind.{TrapKind}
@@ -362,19 +362,23 @@ module _ (ctx : Setting) where
         → (within k v ≡ true → Refers h k v → Goes ctx s items (going m middle stack) rest) → rest + 1 ≤ budget → Goes ctx s items here budget
     stored_tested k j v stores fits refers below is middle budget rest test close traps goes less = by (takes_value k j) refl stores
       where
-        reference : (n : Pointee) × (k ≡ OfPointer n) × (j ≡ OfPointer n) → Goes ctx s items here budget
-        reference (n, one, other) =
+        untested : (i : Kind) → test_code i i ≡ [] → (k ≡ i) → (j ≡ i) → Goes ctx s items here budget
+        untested i none one other =
             let same : j ≡ k = other ∙ sym one in
-            let stays : p ≡ middle = subst (λ (i : Kind). InstrsAt piece (test_code i (OfPointer n)) p middle) one (subst (λ (i : Kind). InstrsAt piece (test_code k i) p middle) other test) in
+            let stays : p ≡ middle = subst (λ (is : List Instr). InstrsAt piece is p middle) none (subst (λ (y : Kind). InstrsAt piece (test_code y i) p middle) one (subst (λ (y : Kind). InstrsAt piece (test_code k y) p middle) other test)) in
             goes_more ctx s items here rest budget
             (subst (λ (i : ℕ). Goes ctx s items (going m i stack) rest) (sym stays) (goes (ap (λ (i : Kind). within i v) (sym same) ∙ fits) (subst (λ (i : Kind). Refers h i v) same refers)))
             (omega (arith, less))
 
-        by : (b : Bool) → takes_value k j ≡ b → (b || same_pointer k j) ≡ true → Goes ctx s items here budget
+        same : (b : Bool) → same_pointer k j ≡ b → (b || same_procedures k j) ≡ true → Goes ctx s items here budget
+        same true pointers stores = let both = pointers_same k j pointers in untested (OfPointer both.0) refl both.1 both.2
+        same false pointers stores = let both = procedures_same k j stores in untested (OfProcedure both.0) refl both.1 both.2
+
+        by : (b : Bool) → takes_value k j ≡ b → (b || (same_pointer k j || same_procedures k j)) ≡ true → Goes ctx s items here budget
         by true takes stores =
             tested k j v takes fits below (is ∙ ap (λ (w : ℕ). w ∷ below) (plain_word h j v (takes_plain k j takes).1 fits)) middle budget rest test close traps
             (λ e. goes e (plain_refers h k v (takes_plain k j takes).0)) less
-        by false takes stores = reference (pointers_same k j stores)
+        by false takes stores = same (same_pointer k j) refl stores
 
     -- a value of the kind of a place is stored there
     pub stored_goes : (b : Access) (place : Place) (k : Kind) (under : List ℕ) → HasPlace ctx b place (Word k) under [] → readied b ≡ b → (v : Scalar) → within k v ≡ true → Refers h k v

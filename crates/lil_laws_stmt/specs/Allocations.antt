@@ -251,7 +251,7 @@ module _ (ctx : Setting) where
                 (record {
                   base = λ r e. refl;
                   shape = λ r e. refl;
-                  targets = refl;
+                  listed = refl;
                   spaces = extended h.workspaces first;
                   owner = λ i e. refl;
                   shadow = λ i. refl;

@@ -84,7 +84,7 @@ module _ (ctx : Setting) where
       pub record Filled (x : Home) (cells : Cells) (objects : List Shape) (workspaces : List Workspace) : Type 0 where
         pub base : (r : Root) → lives h r ≡ true → x.base r ≡ h.base r
         pub shape : (r : Root) → lives h r ≡ true → x.shape r ≡ h.shape r
-        pub targets : x.targets ≡ h.targets
+        pub listed : x.listed ≡ h.listed
         pub spaces : Extends x.workspaces h.workspaces
         pub owner : (i : ℕ) → (i < first) ⊎ ((first ≤ i) × (st.limit ≤ i)) → x.owner i ≡ h.owner i
         pub shadow : (i : ℕ) → x.shadow i ≡ h.shadow i
@@ -137,9 +137,9 @@ module _ (ctx : Setting) where
                     base_is = g.base_is;
                     limit_is = ap (λ (i : ℕ). i - (words + 2)) g.limit_is;
                     bodies_are = g.bodies_are;
-                    known = known_kept ctx.library ctx.loaded ctx.table ctx.activations ctx.activations (λ i b e. e) h x (λ n y. filled.base (Global n y) refl) (λ n y. filled.shape (Global n y) refl) filled.targets fixed_kept st.frame g.known;
-                    callers = each_known ctx.library ctx.loaded ctx.table ctx.activations ctx.activations (λ i b e. e) h x (λ n y. filled.base (Global n y) refl) (λ n y. filled.shape (Global n y) refl) filled.targets fixed_kept st.callers g.callers;
-                    comes = each_comes ctx.library ctx.loaded ctx.table ctx.activations ctx.activations (λ i b e. e) h x (λ n y. filled.base (Global n y) refl) (λ n y. filled.shape (Global n y) refl) filled.targets fixed_kept st.base st.bodies g.comes;
+                    known = known_kept ctx.library ctx.loaded ctx.table ctx.activations ctx.activations (λ i b e. e) h x (λ n y. filled.base (Global n y) refl) (λ n y. filled.shape (Global n y) refl) filled.listed fixed_kept st.frame g.known;
+                    callers = each_known ctx.library ctx.loaded ctx.table ctx.activations ctx.activations (λ i b e. e) h x (λ n y. filled.base (Global n y) refl) (λ n y. filled.shape (Global n y) refl) filled.listed fixed_kept st.callers g.callers;
+                    comes = each_comes ctx.library ctx.loaded ctx.table ctx.activations ctx.activations (λ i b e. e) h x (λ n y. filled.base (Global n y) refl) (λ n y. filled.shape (Global n y) refl) filled.listed fixed_kept st.base st.bodies g.comes;
                     stands = stands_kept h.owner x.owner st.base m.top st.frame st.callers (λ i from less. filled.owner i (inl (omega (arith, less, roomy)))) g.stands;
                     links = chained_kept h.shadow x.shadow ctx.activations ctx.activations (λ i b e. e) h.owner st.base m.top st.frame st.callers g.stands (λ i from below. filled.shadow i) g.links;
                     locals = each_local ctx.activations ctx.activations (λ i b e. e) h x (frames_of ctx.stack) (λ r seen. filled.base r) (λ r seen. filled.shape r) g.locals;
@@ -159,7 +159,7 @@ module _ (ctx : Setting) where
                 around = a;
                 ahead = rows_ahead moving k end [] c a
                     (rows_kept k ctx x lower (st.base + 4) (stack_above ctx (stack_of m) g).1 Quiet end [] c a
-                    (record { pushed = λ i less. filled.shadow (st.frame.at + (st.frame.layout.frame + i)); shadow = λ i from less. filled.shadow i; base = λ r e. filled.base r; shape = λ r e. filled.shape r; targets = filled.targets; workspaces = filled.spaces })
+                    (record { pushed = λ i less. filled.shadow (st.frame.at + (st.frame.layout.frame + i)); shadow = λ i from less. filled.shadow i; base = λ r e. filled.base r; shape = λ r e. filled.shape r; listed = filled.listed; workspaces = filled.spaces })
                     then);
               };
             }))
@@ -168,7 +168,7 @@ module _ (ctx : Setting) where
               shadow = λ i e. filled.shadow i;
               base = λ r beyond. filled.base r;
               shape = λ r beyond. filled.shape r;
-              targets = filled.targets;
+              listed = filled.listed;
               workspaces = filled.spaces;
               fixed = fixed_kept;
             })

@@ -231,7 +231,7 @@ module _ (ctx : Setting) (f b : Frame) (bs : List Frame) where
               around = outside b;
               ahead = rows_ahead (at_home beginning x) k next.start [] c (outside b)
                   (rows_kept k beginning x ctx.stack.limit (base + 4) (omega (arith, comes.at), (all_above ending (stack_of m) g).1) Quiet next.start [] c (outside b)
-                  (record { pushed = λ i less. absurd (omega (arith, less, next.idle)); shadow = λ a from below. absurd (omega (arith, from, below, comes.at, next.bare)); base = λ r e l. refl; shape = λ r e l. refl; targets = refl; workspaces = extends_self h.workspaces })
+                  (record { pushed = λ i less. absurd (omega (arith, less, next.idle)); shadow = λ a from below. absurd (omega (arith, from, below, comes.at, next.bare)); base = λ r e l. refl; shape = λ r e l. refl; listed = refl; workspaces = extends_self h.workspaces })
                   next.then);
             };
           }))
@@ -240,7 +240,7 @@ module _ (ctx : Setting) (f b : Frame) (bs : List Frame) where
             shadow = λ a o. shadow_beside a (⊎_elim (λ (l : a < ctx.stack.base). inl l) (λ (g : ctx.stack.limit ≤ a). inr (omega (arith, g, comes.at, room), omega (arith, g, comes.at, room))) o);
             base = λ r b e. refl;
             shape = λ r b e. refl;
-            targets = refl;
+            listed = refl;
             workspaces = extends_self h.workspaces;
             fixed = fixed_kept;
           })

@@ -121,7 +121,7 @@ module _ (x : Home) (cells : Cells) (a lo hi : ℕ) (shapes : List Shape) (slots
     pub base : (r : Root) → lives x r ≡ true → z.base r ≡ x.base r
     pub shape : (r : Root) → lives x r ≡ true → z.shape r ≡ x.shape r
     pub other_shape : (r : Root) → of_activation a r ≡ false → z.shape r ≡ x.shape r
-    pub targets : z.targets ≡ x.targets
+    pub listed : z.listed ≡ x.listed
     pub workspaces : z.workspaces ≡ x.workspaces
     pub to_come : (y : ℕ) (t : Shape) → y0 ≤ y → slice_get shapes y ≡ Some (Opened true t) → z.shape (Local a y) ≡ Absent
     pub stays : (y off : ℕ) (t : Shape) → y < y0 → slice_get (offsets_from 4 shapes) y ≡ Some off → slice_get shapes y ≡ Some t → copy_code 4 t ≡ [] → (i : ℕ) → off ≤ i → i < off + words t → z.shadow (lo + i) ≡ x.shadow (lo + i)
@@ -141,7 +141,7 @@ module _ (x : Home) (cells : Cells) (a lo hi : ℕ) (shapes : List Shape) (slots
     base = λ r e. refl;
     shape = λ r e. refl;
     other_shape = λ r e. refl;
-    targets = refl;
+    listed = refl;
     workspaces = refl;
     to_come = λ y t le typed. unborn y t typed;
     stays = λ y off t less. absurd (omega (arith, less));
@@ -162,7 +162,7 @@ module _ (x : Home) (cells : Cells) (a lo hi : ℕ) (shapes : List Shape) (slots
     base = r.base;
     shape = r.shape;
     other_shape = r.other_shape;
-    targets = r.targets;
+    listed = r.listed;
     workspaces = r.workspaces;
     to_come = λ y u le is. r.to_come y u (omega (arith, le)) is;
     stays = λ y off u less there is none i from below. ⊎_elim (λ (l : y < y0). r.stays y off u l there is none i from below) (λ (g : y0 ≤ y).
@@ -259,7 +259,7 @@ module _ (x : Home) (cells : Cells) (a lo hi : ℕ) (shapes : List Shape) (slots
       base = λ q e. based q (was_none q e) ∙ r.base q e;
       shape = λ q e. shaped q (was_none q e) ∙ r.shape q e;
       other_shape = λ q e. shaped q (foreign a y0 q e) ∙ r.other_shape q e;
-      targets = r.targets;
+      listed = r.listed;
       workspaces = r.workspaces;
       to_come = λ y u le is. shaped (Local a y) (other_local a y0 y (λ e. omega (arith, e, le))) ∙ r.to_come y u (omega (arith, le)) is;
       stays = λ y off u less there is none i from less_too. ⊎_elim (λ (l : y < y0). let ends = r.reached y off u l there is in shade (lo + i) (λ e. omega (arith, e, ends, less_too)) ∙ r.stays y off u l there is none i from less_too) (λ (g : y0 ≤ y).

@@ -5,7 +5,7 @@ use Rattle.std.proofs.lemmas.{Bool.{cases_lt}, Option.{none-some, same_Some}}
 use Rattle.std.specs.Prelude.{slice_get}
 use Rattle.lil_base.specs.declared.fault.TrapKind.TheVariants as trap
 use Rattle.lil_resolved.specs.{Kinds.Shape, Resolved.{Arguments, Expression, Answer, Halt, Return}}
-use Rattle.lil_meaning.specs.{World.{World, closing, all_closed}, Closings.{all_none, all_some}, Items.{Scalars, Value, Returning, loaded_at, Activation, Datum, Called, Pass, PassPlace, PassAll, PassArray, Do, Turns, Holding, End, Item, Fill, Perform, Level, Going, Closing, Ended, Source}, Steps.{trapped, with_items, end_reached, activation_result, result_by, owner_of, procedure_of, next, returned, left_by, over}}
+use Rattle.lil_meaning.specs.{World.{World, closing, all_closed}, Closings.{all_none, all_some}, Items.{Scalars, Value, Returning, loaded_at, Activation, Datum, Callee, Called, Pass, PassPlace, PassAll, PassArray, Calling, Do, Turns, Holding, End, Item, Fill, Perform, Level, Going, Closing, Ended, Source}, Steps.{trapped, with_items, end_reached, activation_result, result_by, owner_of, procedure_of, next, returned, left_by, over}}
 use Rattle.lil_asm.specs.declared.instr.Instr.TheVariants.{Rtn, Trp}
 use Rattle.lil_mcode.specs.{declared.machine.Event.TheVariants.LevelEnded, Table.{Kept, State, going, end_row}}
 use Rattle.lil_table.specs.Rows.{IsAt, leave_code, loop_place}
@@ -147,9 +147,9 @@ behind_pushed before n k c (g ∷ gs) bs b = record { before = b.before; called 
 behind_pushed before n k c [] (b ∷ bs) x = record { body = x.body; low = x.low; plain = x.plain; bare = x.bare; idle = x.idle; start = x.start; enter = x.enter; then = x.then }
 behind_pushed before n k c [] [] last = last
 
-returns_pending : (ctx : Setting) (q levels : ℕ) (done : List Datum) (next : List Shape) (left : Arguments) (k : List Item) (p c : ℕ) (a : Around) → Pending ctx q levels done next left (RowsOf k) p c a
+returns_pending : (ctx : Setting) (q : Callee) (done : List Datum) (next : List Shape) (left : Arguments) (k : List Item) (p c : ℕ) (a : Around) → Pending ctx q done next left (RowsOf k) p c a
     → ((y : Setting) (t : Mode) (p : ℕ) (stack : List ℕ) (c : ℕ) (a : Around) → Rows y k t p stack c a → Returns y (returned k) c) → Returns ctx (returned k) c
-returns_pending ctx q levels done next left k p c a w rest =
+returns_pending ctx q done next left k p c a w rest =
     let r = rest w.before _ w.after _ w.later w.outer w.then in
     subst (λ (y : Setting). Returns y (returned k) c) (sym w.is)
     (record { later = r.later; less = omega (arith, r.less, w.count); behind = behind_pushed w.before (saved_words w.resumed + (4 + all_words w.shapes)) (returned k) r.later w.before.stack.callers w.before.stack.bodies r.behind })
@@ -164,14 +164,20 @@ returns ctx (Perform (Holding place) ∷ k) t p stack c a r =
     sooner ctx (returned k) c r.later (omega (arith, r.count))
     (returns_inside ctx w.before w.shape (loop_place w.outer.taken) (returned k) r.later w.is (returns w.before k _ _ _ _ _ w.then))
 returns ctx (Perform (End n) ∷ k) t p stack c a r = record { later = r.later; less = omega (arith, r.count); behind = r.there.behind }
-returns ctx (Fill (Pass (Called q levels) kind done left) ∷ k) t p stack c a r =
-    sooner ctx (returned k) c r.later (omega (arith, r.count)) (returns_pending ctx q levels done _ left k _ r.later a r.there.pending (λ y t p stack c a. returns y k t p stack c a))
-returns ctx (Fill (PassPlace (Called q levels) done left) ∷ k) t p stack c a r =
-    sooner ctx (returned k) c r.later (omega (arith, r.count)) (returns_pending ctx q levels done _ left k _ r.later a r.there.pending (λ y t p stack c a. returns y k t p stack c a))
-returns ctx (Fill (PassAll (Called q levels) done left) ∷ k) t p stack c a r =
-    sooner ctx (returned k) c r.later (omega (arith, r.count)) (returns_pending ctx q levels done _ left k _ r.later a r.there.pending (λ y t p stack c a. returns y k t p stack c a))
-returns ctx (Fill (PassArray (Called q levels) high done left) ∷ k) t p stack c a r =
-    sooner ctx (returned k) c r.later (omega (arith, r.count)) (returns_pending ctx q levels done _ left k _ r.later a r.there.pending (λ y t p stack c a. returns y k t p stack c a))
+returns ctx (Fill (Pass (Called q) kind done left) ∷ k) t p stack c a r =
+    sooner ctx (returned k) c r.later (omega (arith, r.count)) (returns_pending ctx q done _ left k _ r.later a r.there.pending (λ y t p stack c a. returns y k t p stack c a))
+returns ctx (Fill (PassPlace (Called q) done left) ∷ k) t p stack c a r =
+    sooner ctx (returned k) c r.later (omega (arith, r.count)) (returns_pending ctx q done _ left k _ r.later a r.there.pending (λ y t p stack c a. returns y k t p stack c a))
+returns ctx (Fill (PassAll (Called q) done left) ∷ k) t p stack c a r =
+    sooner ctx (returned k) c r.later (omega (arith, r.count)) (returns_pending ctx q done _ left k _ r.later a r.there.pending (λ y t p stack c a. returns y k t p stack c a))
+returns ctx (Fill (PassArray (Called q) high done left) ∷ k) t p stack c a r =
+    sooner ctx (returned k) c r.later (omega (arith, r.count)) (returns_pending ctx q done _ left k _ r.later a r.there.pending (λ y t p stack c a. returns y k t p stack c a))
+returns ctx (Fill (Calling given) ∷ k) t p stack c a r =
+    let w = r.there in
+    let inner = returns w.before k _ w.after _ _ w.outer w.then in
+    sooner ctx (returned k) c r.later (omega (arith, r.count))
+    (subst (λ (y : Setting). Returns y (returned k) r.later) (sym w.is)
+    (record { later = inner.later; less = inner.less; behind = behind_pushed w.before (saved_words w.resumed) (returned k) inner.later w.before.stack.callers w.before.stack.bodies inner.behind }))
 returns ctx (i ∷ k) t p stack c a r = sooner ctx (returned k) c r.later (omega (arith, r.count)) (returns ctx k _ _ _ _ _ r.there.then)
 
 -- RETURN is an end: its own RTN is the frame's, and what is left is behind the first end

@@ -1,16 +1,16 @@
 -- All arguments of a call are there: the call, and the words of the frame.
 use Rattle.std.proofs.Common.{◌≡◌, ℕ, zero, suc, ◌+◌, ◌-◌, ◌*◌, ◌<◌, ◌≤◌, ◌⊎◌, inl, inr, Bool, true, false, eqb, eqb-true, drop, take, Option, Some, None, List, [], ◌∷◌, ◌++◌, length, length-drop, get_or, set, map, cond, drop-cons, refl, sym, ap, ◌∙◌, subst, ⊎_elim, arith, eq-eqb}
-use Rattle.std.specs.{Prelude.{nat_lt, slice_get, option_map, option_and_then, ◌==◌, ◌&&◌, ◌||◌}, List.list_any}
+use Rattle.std.specs.{Prelude.{nat_lt, slice_get, slice_index, ◌/◌, ◌%◌, option_map, option_and_then, ◌==◌, ◌&&◌, ◌||◌}, List.list_any}
 use Rattle.std.proofs.lemmas.{Bool.{lt-ltb, le-ltb, le-leb, ltb-true, cases_lt, and_from}, Option.{same_Some, slice_get_within, slice_get-map}, List.{length_push, append-nil, take-append-drop, length-take-le, get_or-take, get_or-drop}}
 use Rattle.lil_base.specs.declared.fault.LimitKind.TheVariants as limit
-use Rattle.lil_resolved.specs.{Kinds.{result_of, result_here, MayCall, Declared, Outline, Kind, Scalar, Shape, Absent, Row, Address, Opened, Word, is_there, part_at, all_words, words as part_words, OfCharacter, Character, within as in_kind, base_of, shape_at, offset as part_offset, offsets_from, locals_of, parameters_of}, Resolved.{NoMore, Procedure, Statements, Empty, Then, Resolved, procedure_by, outline_of}, Sizes.frame_words, Plain.parameter_variable}
-use Rattle.lil_meaning.specs.{Items.{Root, Global, Local, Object, Place, Slot, Along, Cells, Scalars, Places, Wholes, Opens, Texts, begun, Datum, Called, Passing, with_locals, loaded_at, End, Item, Perform, Activation, Going, Source, doing}, Need.{HasCalls, frame_of, copies_of, copy_words, copies_words, locals_by, cost, unless_body, with_callers, chain}, Steps.{procedure_result, next, current, owner_of, procedure_of, procedures_of, procedure_name, its_name, outer_of, level_out, declaring, entered, called_by, slot_of, slots_by}}
-use Rattle.lil_asm.specs.{declared.instr.Instr.{Instr, TheVariants.{Cll, Ent, Cpy}}, Stretches.stretch}
-use Rattle.lil_mcode.specs.Table.{array_row, copied_row, longer_row, Module, State, stack_of, module_at, mstep, its_entry, entry_in, call_row, called_row, enter_row}
+use Rattle.lil_resolved.specs.{Kinds.{result_of, result_here, MayCall, Declared, Outline, Kind, Scalar, procedure_word, Shape, Absent, Row, Address, Opened, Word, is_there, part_at, all_words, words as part_words, OfCharacter, Character, within as in_kind, base_of, shape_at, offset as part_offset, offsets_from, locals_of, parameters_of}, Resolved.{NoMore, Procedure, Statements, Empty, Then, Resolved, procedure_by, outline_of}, Sizes.frame_words, Plain.parameter_variable}
+use Rattle.lil_meaning.specs.{Items.{Root, Global, Local, Object, Place, Slot, Along, Cells, Scalars, Places, Wholes, Opens, Texts, begun, Datum, Callee, ByNumber, OfValue, callee_number, callee_levels, callee_owner, Called, Passing, with_locals, loaded_at, End, Item, Perform, Activation, Going, Source, doing}, Need.{HasCalls, frame_of, copies_of, copy_words, copies_words, locals_by, cost, unless_body, with_callers, chain}, Steps.{procedure_result, next, current, owner_of, procedure_of, procedures_of, procedure_name, its_name, outer_of, level_out, declaring, entered, called_by, slot_of, slots_by}}
+use Rattle.lil_asm.specs.{declared.instr.Instr.{Instr, TheVariants.{Cll, Clf, Ent, Cpy}}, Stretches.stretch}
+use Rattle.lil_mcode.specs.Table.{array_row, copied_row, longer_row, Module, State, stack_of, module_at, mstep, its_entry, entry_in, call_row, value_call_row, called_row, enter_row}
 use Rattle.lil_frames.specs.Words.{spliced, moved, zeros, cleared}
 use Rattle.lil_table.specs.Rows.{leave_code, Layout, IsAt, InstrsAt, text_words, copies_code, framed, exactly, BodyAt, loop_place}
-use Rattle.lil_match.specs.{Goes.{OwnWords, Stands, IsPiece, IsHeap, IsUnborn, HasLocals, HasHanded, OpenedIn, HasOpened, IsFree, EachHanded, EachLocal, Chained, Grows, Linked, Entered, IsKnown, Shared, IsShort, Lands, Goes}, Running.{running, advanced}, Parts.{yes, no, part_fits, word_long, part_append, offset_append as part_offset_append}, Homes.{Of, Own, Fixed, Home, Ours, ours_fixed, address, shape_there, place_inside, text_character, Refers, Extends, IsWord, is_word_kept, lives, extends_self, Mem, Stays, Turns, mem_turned}, Splices.{spliced_length, spliced_before, spliced_there, spliced_after, zeros_length, zeros_word, block_alone}}
-use Rattle.lil_match.specs.{Waits.{Resumed, AreSaved, saved_words, result_in, resumed_mode, resumed_stack, RestoresAt, Quiet, Around, outside, own_words, locals_in, parameters_in, top_of, is_of, sees, with_frames, Frame, Stack, frames_of, Setting, renewed, pushing, IsLink, GivenText, AllGiven, PendingWaits, RowsOf, Rows, Ahead}, Known.{sees_more, own_seen, known_kept, each_known, each_comes, each_local, seen_within}, Kept.{saved_kept, EachAbove, place_lives, sees_pushed, each_handed, first_words, stack_above, stands_kept, chained_kept, copies_below, loops_fit, rows_renewed}, Laid.known_part}
+use Rattle.lil_match.specs.{Goes.{OwnWords, Stands, IsPiece, IsHeap, IsUnborn, HasLocals, HasHanded, OpenedIn, HasOpened, IsFree, EachHanded, EachLocal, Chained, Grows, Linked, Entered, IsProgram, IsKnown, Shared, IsShort, Lands, Goes}, Running.{running, advanced}, Parts.{yes, no, part_fits, word_long, part_append, offset_append as part_offset_append}, Homes.{Of, Own, Fixed, Home, Ours, ours_fixed, address, shape_there, place_inside, text_character, Refers, Extends, IsWord, is_word_kept, lives, extends_self, Mem, Stays, Turns, mem_turned}, Splices.{spliced_length, spliced_before, spliced_there, spliced_after, zeros_length, zeros_word, block_alone}}
+use Rattle.lil_match.specs.{Waits.{Resumed, AreSaved, saved_words, result_in, resumed_mode, resumed_stack, RestoresAt, Quiet, Around, outside, own_words, locals_in, parameters_in, top_of, is_of, sees, with_frames, Frame, Stack, frames_of, Setting, renewed, pushing, IsLink, HasValue, call_code, GivenText, AllGiven, PendingWaits, RowsOf, Rows, Ahead}, Known.{sees_more, own_seen, known_kept, each_known, each_comes, each_local, seen_within}, Kept.{saved_kept, EachAbove, place_lives, sees_pushed, each_handed, first_words, stack_above, stands_kept, chained_kept, copies_below, loops_fit, rows_renewed}, Laid.known_part}
 use Rattle.lil_match.specs.{Costs.{saved_low, cost_of, known_costs, each_costs, items_cost, top_low}, Climbs.{Climbs, climbs, first_own}, Steps.{closed, advances, at_step, at_once, rows_ahead, goes_more, goes_after, goes_full, goes_one_grown}, Orders.instr_within}
 use Rattle.lil_laws_stmt.specs.{Locals.{shape_none, none_there, born, IsOther, base_other, shape_other, base_there, shape_there as born_shape, owner_other, owner_there, owner_handed, mem_born, mem_entered, fresh_local}, Painting.{painted, painted_there, painted_beside, Side, Before, Between, Behind', side}, Control.body_rows}
 use Rattle.lil_laws_stmt.specs.{Calls.{Found, found, frame_known}, Given.{slots_here, slice_more, offsets_more, slots_more, copies_same, IsPlain, IsCopied, given_form, handed_word, opened_words, given_low, given_cells}, Copies.{Copying, copies_none, copies_skip, copies_more}, Strings.string_low, Pushes.{with_pushed, known_repushed, links_repushed, locals_repushed, handed_repushed}}
@@ -57,16 +57,32 @@ doing_chain : (library : List Resolved) (loaded : List ℕ) (acts : List Activat
 doing_chain library loaded acts Empty k = refl
 doing_chain library loaded acts (Then s ss) k = let rest = doing_chain library loaded acts ss k in omega (arith, rest)
 
+-- ---- the instruction of a call
+-- a value has the numbers of its module and its procedure
+pub value_parts : (j p : ℕ) → p < 256 → (procedure_word j p / 256 ≡ j) × (procedure_word j p % 256 ≡ p)
+value_parts j p less = (omega (arith, less), omega (arith, less))
+
+callee_row : (ctx : Setting) (m : State) → IsProgram ctx m.modules m.running m.marked → (q : Callee) (w end : ℕ) → IsAt ctx.stack.frame.piece m.place (call_code q w) end → callee_owner m.running q ≡ m.running
+    → HasValue q (slice_index m.store (m.top - w - 1)) → mstep m ≡ call_row m.running (callee_number q) w end m
+callee_row ctx m program (ByNumber p n) w end at here value = at_step ctx m program (Cll p w) end at
+callee_row ctx m program (OfValue j p) w end at here value =
+    let parts = value_parts j p value.1 in
+    at_step ctx m program (Clf w) end at
+    ∙ ap (λ (v : ℕ). value_call_row w end m v) value.0
+    ∙ ap (λ (z : ℕ × ℕ). call_row z.0 z.1 w end m) (ap (λ (i : ℕ). (i, procedure_word j p % 256)) (parts.0 ∙ here) ∙ ap (λ (i : ℕ). (m.running, i)) parts.1)
+
 -- what is known around the arguments of a call that are all there, behind what was saved for it
-pub record Complete (before : Setting) (k : List Item) (proc levels : ℕ) (shapes : List Shape) (done : List Datum) (p c : ℕ) (a : Around) : Type 0 where
-  pub may : MayCall before.stack.frame.layout.scope proc levels
-  pub takes : parameters_of (procedure_by before.stack.frame.layout.scope.procedures proc) ≡ shapes
-  pub link : IsLink before.stack.frame.display levels (before.home.shadow (top_of before.stack.frame))
+pub record Complete (before : Setting) (k : List Item) (q : Callee) (shapes : List Shape) (done : List Datum) (p c : ℕ) (a : Around) : Type 0 where
+  pub may : MayCall before.stack.frame.layout.scope (callee_number q) (callee_levels q)
+  pub here : callee_owner before.stack.frame.number q ≡ before.stack.frame.number
+  pub takes : parameters_of (procedure_by before.stack.frame.layout.scope.procedures (callee_number q)) ≡ shapes
+  pub link : IsLink before.stack.frame.display (callee_levels q) (before.home.shadow (top_of before.stack.frame))
+  pub value : HasValue q (before.home.shadow (top_of before.stack.frame + 3))
   pub given : AllGiven (pushing before (4 + all_words shapes)) shapes done (top_of before.stack.frame + 4)
   pub end : ℕ
-  pub call : IsAt before.stack.frame.piece p (Cll proc (framed (all_words shapes))) end
+  pub call : IsAt before.stack.frame.piece p (call_code q (framed (all_words shapes))) end
   pub resumed : Resumed
-  pub returns : result_of (procedure_by before.stack.frame.layout.scope.procedures proc) ≡ result_in resumed
+  pub returns : result_of (procedure_by before.stack.frame.layout.scope.procedures (callee_number q)) ≡ result_in resumed
   pub under : ℕ
   pub pushed : before.stack.frame.pushed ≡ saved_words resumed + under
   pub saved : AreSaved before.home.shadow resumed (before.stack.frame.at + (before.stack.frame.layout.frame + under))
@@ -75,7 +91,13 @@ pub record Complete (before : Setting) (k : List Item) (proc levels : ℕ) (shap
   pub within : after < length before.stack.frame.piece
   pub then : Rows (with_pushed before under) k (resumed_mode resumed) after (resumed_stack resumed) c a
 
-module _ (before : Setting) (shapes : List Shape) (done : List Datum) (s : Source) (k : List Item) (m : State) (c : ℕ) (a : Around) (shared : Shared (pushing before (4 + all_words shapes)) s m) (proc levels : ℕ) (w : Complete before k proc levels shapes done m.place c a) (empty : m.stack ≡ []) where
+module _ (before : Setting) (shapes : List Shape) (done : List Datum) (s : Source) (k : List Item) (m : State) (c : ℕ) (a : Around) (shared : Shared (pushing before (4 + all_words shapes)) s m) (q : Callee) (w : Complete before k q shapes done m.place c a) (empty : m.stack ≡ []) where
+  abbrev proc : ℕ
+  proc = callee_number q
+
+  abbrev levels : ℕ
+  levels = callee_levels q
+
   abbrev ctx : Setting
   ctx = pushing before (4 + all_words shapes)
 
@@ -89,10 +111,10 @@ module _ (before : Setting) (shapes : List Shape) (done : List Datum) (s : Sourc
   gs = before.stack.callers
 
   abbrev items : List Item
-  items = Perform (Passing (Called proc levels) done NoMore) ∷ k
+  items = Perform (Passing (Called q) done NoMore) ∷ k
 
   abbrev now : Source
-  now = record s { items = Perform (Passing (Called proc levels) done NoMore) ∷ k; phase = Going }
+  now = record s { items = Perform (Passing (Called q) done NoMore) ∷ k; phase = Going }
 
   -- the frame that calls, without what is pushed
   known : IsKnown before.library before.loaded before.table before.activations before.home before.stack.frame
@@ -120,18 +142,18 @@ module _ (before : Setting) (shapes : List Shape) (done : List Datum) (s : Sourc
   code : Entered before.stack.frame.own before.stack.frame.layout proc its
   code = known.codes proc its what.there
 
-  owner_is : owner_of (slice_get s.activations (current k)) ≡ before.stack.frame.number
-  owner_is = cc (close, shared.activations_are, known.owner)
+  owner_is : callee_owner (owner_of (slice_get s.activations (current k))) q ≡ before.stack.frame.number
+  owner_is = ap (λ (i : ℕ). callee_owner i q) (let e : owner_of (slice_get s.activations (current k)) ≡ before.stack.frame.number = cc (close, shared.activations_are, known.owner) in e) ∙ w.here
 
   abbrev new : Activation
-  new = called_by s.activations (owner_of (slice_get s.activations (current k))) (current k) proc levels done its
+  new = called_by s.activations (callee_owner (owner_of (slice_get s.activations (current k))) q) (current k) q done its
 
   abbrev all : List Activation
-  all = before.activations ++ called_by s.activations (owner_of (slice_get s.activations (current k))) (current k) proc levels done its ∷ []
+  all = before.activations ++ called_by s.activations (callee_owner (owner_of (slice_get s.activations (current k))) q) (current k) q done its ∷ []
 
   abbrev entering : Source
   entering = record s {
-    activations = s.activations ++ called_by s.activations (owner_of (slice_get s.activations (current k))) (current k) proc levels done its ∷ [];
+    activations = s.activations ++ called_by s.activations (callee_owner (owner_of (slice_get s.activations (current k))) q) (current k) q done its ∷ [];
     cells = with_locals s.cells (length s.activations) done its.locals;
     items = doing its.body (Perform (End (length s.activations)) ∷ k);
     phase = Going;
@@ -142,7 +164,7 @@ module _ (before : Setting) (shapes : List Shape) (done : List Datum) (s : Sourc
 
   becomes : next before.library now ≡ entering
   becomes =
-      ap (λ (o : Option Procedure). entered o (called_by s.activations (owner_of (slice_get s.activations (current k))) (current k) proc levels done) done k now) (
+      ap (λ (o : Option Procedure). entered o (called_by s.activations (callee_owner (owner_of (slice_get s.activations (current k))) q) (current k) q done) done k now) (
       ap (λ (i : ℕ). procedure_by (procedures_of (loaded_at before.library s.loaded i)) proc) owner_is
       ∙ ap (λ (ns : List ℕ). procedure_by (procedures_of (loaded_at before.library ns before.stack.frame.number)) proc) shared.loaded_are
       ∙ listed
@@ -290,9 +312,17 @@ module _ (before : Setting) (shapes : List Shape) (done : List Datum) (s : Sourc
   few : framed (all_words shapes) ≡ all_words shapes
   few = omega (arith, top_is, shared.standing.low, shared.standing.high)
 
+  -- the word of a value that is called stands in the mark
+  value_there : HasValue q (slice_index m.store (m.top - framed (all_words shapes) - 1))
+  value_there =
+      let at : m.top - framed (all_words shapes) - 1 ≡ before.stack.frame.at + (before.stack.frame.layout.frame + (before.stack.frame.pushed + 3)) = omega (arith, few, top_is) in
+      let own : h.owner (before.stack.frame.at + (before.stack.frame.layout.frame + (before.stack.frame.pushed + 3))) ≡ Own =
+      taller.own (before.stack.frame.layout.frame + (before.stack.frame.pushed + 3)) (inr (omega (arith, words.mark), inr (omega (arith, copies_low, w.pushed)))) (omega (arith, top_is)) in
+      subst (HasValue q) (sym (ap (slice_index m.store) at ∙ shared.mem.kept _ own ∙ ap h.shadow (let e : before.stack.frame.at + (before.stack.frame.layout.frame + (before.stack.frame.pushed + 3)) ≡ top_of before.stack.frame + 3 = omega arith in e))) w.value
+
   calls : advanced (running m s.world) ≡ running called s.world
   calls = advances m s.world _ (
-      at_step ctx m shared.program (Cll proc (framed (all_words shapes))) w.end w.call
+      callee_row ctx m shared.program q (framed (all_words shapes)) w.end w.call (ap (λ (i : ℕ). callee_owner i q) shared.program.running_is ∙ w.here ∙ sym shared.program.running_is) value_there
       ∙ ap (λ (n : ℕ). call_row m.running proc n w.end m) few
       ∙ yes _ _ _ (and_from _ _ (le-leb (m.frame + 8 + all_words shapes) m.top (omega (arith, shared.standing.frame_is, words.mark, top_is))) (eq-eqb (length m.stack) 0 (ap length empty)))
       ∙ ap (called_row m.running (m.top - all_words shapes - 4) w.end m) entry_is
@@ -326,7 +356,7 @@ module _ (before : Setting) (shapes : List Shape) (done : List Datum) (s : Sourc
       under =
           items_cost (renewed (with_pushed before w.under) all before.home before.stack.limit) k _ w.after _ c a
           (rows_renewed k (with_pushed before w.under) all before.home before.stack.limit (before.stack.base + 4) (above.1.0, above.1.1) _ w.after _ c a
-          (record { pushed = λ i less. refl; shadow = λ i from below. refl; base = λ r e l. refl; shape = λ r e l. refl; targets = refl; workspaces = extends_self before.home.workspaces })
+          (record { pushed = λ i less. refl; shadow = λ i from below. refl; base = λ r e l. refl; shape = λ r e l. refl; listed = refl; workspaces = extends_self before.home.workspaces })
           w.then) (
             known_costs before.library before.loaded before.table all before.home (record f { pushed = w.under }) (known_repushed f f.pushed w.under before.library before.loaded before.table all before.home (known_kept before.library before.loaded before.table before.activations all grows before.home before.home (λ r e. refl) (λ r e. refl) refl (λ i e. (e, refl)) before.stack.frame known)),
             each_costs before.library before.loaded before.table all before.home before.stack.callers (each_known before.library before.loaded before.table before.activations all grows before.home before.home (λ r e. refl) (λ r e. refl) refl (λ i e. (e, refl)) before.stack.callers shared.standing.callers),
@@ -671,7 +701,7 @@ module _ (before : Setting) (shapes : List Shape) (done : List Datum) (s : Sourc
 
       new_known : IsKnown before.library before.loaded before.table all z frame
       new_known =
-          let kept = known_kept before.library before.loaded before.table before.activations before.activations (λ i b e. e) h z (λ n y. base_z (Global n y) refl) (λ n y. shape_z (Global n y) refl) r.targets fixed_z before.stack.frame known in
+          let kept = known_kept before.library before.loaded before.table before.activations before.activations (λ i b e. e) h z (λ n y. base_z (Global n y) refl) (λ n y. shape_z (Global n y) refl) r.listed fixed_z before.stack.frame known in
           known_part before.library before.loaded before.table before.activations all z before.stack.frame code.inner (length s.activations) proc code.entry code.after (stretch code.entry code.after before.stack.frame.own.code) (top_of before.stack.frame) total total (top_of before.stack.frame ∷ outward levels) w.end code.part new runs (ap owner_of runs ∙ owner_is) (ap procedure_of runs)
           (record { there = code.there ∙ ap (λ (n : Option (List ℕ)). Some (code.entry, n)) (sym (name_known (loaded_at before.library before.loaded before.stack.frame.number) proc its listed)); apart = code.apart })
           piece_is
@@ -838,7 +868,7 @@ module _ (before : Setting) (shapes : List Shape) (done : List Datum) (s : Sourc
             shadow = λ i from below. shadow_z i (inl (omega (arith, below, loops)));
             base = λ r seen e. base_z r e;
             shape = λ r seen e. shape_z r e;
-            targets = r.targets;
+            listed = r.listed;
             workspaces = extends_z;
           })
           w.then
@@ -864,10 +894,10 @@ module _ (before : Setting) (shapes : List Shape) (done : List Datum) (s : Sourc
                   bodies_are = g.bodies_are;
                   known = new_known;
                   callers = (
-                    known_kept before.library before.loaded before.table before.activations all grows h z (λ n y. base_z (Global n y) refl) (λ n y. shape_z (Global n y) refl) r.targets fixed_z before.stack.frame known,
-                    each_known before.library before.loaded before.table before.activations all grows h z (λ n y. base_z (Global n y) refl) (λ n y. shape_z (Global n y) refl) r.targets fixed_z before.stack.callers g.callers,
+                    known_kept before.library before.loaded before.table before.activations all grows h z (λ n y. base_z (Global n y) refl) (λ n y. shape_z (Global n y) refl) r.listed fixed_z before.stack.frame known,
+                    each_known before.library before.loaded before.table before.activations all grows h z (λ n y. base_z (Global n y) refl) (λ n y. shape_z (Global n y) refl) r.listed fixed_z before.stack.callers g.callers,
                   );
-                  comes = each_comes before.library before.loaded before.table before.activations all grows h z (λ n y. base_z (Global n y) refl) (λ n y. shape_z (Global n y) refl) r.targets fixed_z before.stack.base before.stack.bodies g.comes;
+                  comes = each_comes before.library before.loaded before.table before.activations all grows h z (λ n y. base_z (Global n y) refl) (λ n y. shape_z (Global n y) refl) r.listed fixed_z before.stack.base before.stack.bodies g.comes;
                   stands = (
                     record {
                       mark = omega (arith, code.frame, words_are);
@@ -941,7 +971,7 @@ module _ (before : Setting) (shapes : List Shape) (done : List Datum) (s : Sourc
             shadow = λ i o. shadow_z i (⊎_elim (λ (z : i < before.stack.base). inl (omega (arith, z, above.0))) (λ (z : before.stack.limit ≤ i). inr (omega (arith, z, room), omega (arith, z, room))) o);
             base = λ r away e. base_z r e;
             shape = λ r away e. shape_z r e;
-            targets = r.targets;
+            listed = r.listed;
             workspaces = extends_z;
             fixed = fixed_z;
           })
@@ -1258,7 +1288,7 @@ module _ (before : Setting) (shapes : List Shape) (done : List Datum) (s : Sourc
           step = enters_it;
         })
 
-  complete_goes : Goes ctx s (Perform (Passing (Called proc levels) done NoMore) ∷ k) m (length (copies_code 4 shapes) + c + 32)
+  complete_goes : Goes ctx s (Perform (Passing (Called q) done NoMore) ∷ k) m (length (copies_code 4 shapes) + c + 32)
   complete_goes =
       goes_after ctx s items m called (length (copies_code 4 shapes) + c + 32) (length (copies_code 4 shapes) + (c + 1)) calls
       (⊎_elim (λ (less : m.limit < top_of before.stack.frame + frame_words its.locals its.body).
@@ -1272,27 +1302,29 @@ module _ (before : Setting) (shapes : List Shape) (done : List Datum) (s : Sourc
       (omega arith)
 
 -- THE law of a call: the procedure begins, or its frame finds no room
-pub enter_goes : (ctx : Setting) (s : Source) (k : List Item) (m : State) (c : ℕ) (a : Around) → Shared ctx s m → (proc levels : ℕ) (done : List Datum) → PendingWaits ctx proc levels done NoMore (RowsOf k) Quiet m.place m.stack c a
-    → Goes ctx s (Perform (Passing (Called proc levels) done NoMore) ∷ k) m (c + 32)
-enter_goes ctx s k m c a shared proc levels done row =
+pub enter_goes : (ctx : Setting) (s : Source) (k : List Item) (m : State) (c : ℕ) (a : Around) → Shared ctx s m → (q : Callee) (done : List Datum) → PendingWaits ctx q done NoMore (RowsOf k) Quiet m.place m.stack c a
+    → Goes ctx s (Perform (Passing (Called q) done NoMore) ∷ k) m (c + 32)
+enter_goes ctx s k m c a shared q done row =
     let w = row.pending in
     let saved : ℕ = saved_words w.resumed in
     let before : Setting = pushing w.before saved in
     let is : ctx ≡ pushing before (4 + all_words w.shapes) = w.is ∙ ap (with_pushed w.before) (let e : saved + (4 + all_words w.shapes) + w.before.stack.frame.pushed ≡ 4 + all_words w.shapes + (saved + w.before.stack.frame.pushed) = omega arith in e) in
     let first : top_of w.before.stack.frame + saved ≡ top_of before.stack.frame = omega arith in
-    let here = subst (λ (p : ℕ). IsAt ctx.stack.frame.piece p (Cll proc (framed (all_words w.shapes))) w.end) (sym w.arguments)
-    (subst (λ (n : ℕ). IsAt ctx.stack.frame.piece w.middle (Cll proc (framed n)) w.end) (let e : all_words w.shapes + (0 + 0) ≡ all_words w.shapes = omega arith in e) w.call) in
-    subst (λ (y : Setting). Goes y s (Perform (Passing (Called proc levels) done NoMore) ∷ k) m (c + 32)) (sym is)
-    (goes_more (pushing before (4 + all_words w.shapes)) s (Perform (Passing (Called proc levels) done NoMore) ∷ k) m (length (copies_code 4 w.shapes) + w.later + 32) (c + 32) (complete_goes before w.shapes done s k m w.later w.outer (subst (λ (y : Setting). Shared y s m) is shared) proc levels
+    let here = subst (λ (p : ℕ). IsAt ctx.stack.frame.piece p (call_code q (framed (all_words w.shapes))) w.end) (sym w.arguments)
+    (subst (λ (n : ℕ). IsAt ctx.stack.frame.piece w.middle (call_code q (framed n)) w.end) (let e : all_words w.shapes + (0 + 0) ≡ all_words w.shapes = omega arith in e) w.call) in
+    subst (λ (y : Setting). Goes y s (Perform (Passing (Called q) done NoMore) ∷ k) m (c + 32)) (sym is)
+    (goes_more (pushing before (4 + all_words w.shapes)) s (Perform (Passing (Called q) done NoMore) ∷ k) m (length (copies_code 4 w.shapes) + w.later + 32) (c + 32) (complete_goes before w.shapes done s k m w.later w.outer (subst (λ (y : Setting). Shared y s m) is shared) q
     (record {
-      may = subst (λ (y : Setting). MayCall y.stack.frame.layout.scope proc levels) is w.may;
-      takes = subst (λ (y : Setting). parameters_of (procedure_by y.stack.frame.layout.scope.procedures proc) ≡ w.shapes) is (w.takes ∙ append-nil w.shapes);
-      link = subst (λ (y : Setting). IsLink y.stack.frame.display levels (y.home.shadow (top_of before.stack.frame))) is (subst (λ (i : ℕ). IsLink ctx.stack.frame.display levels (ctx.home.shadow i)) first w.link);
+      may = subst (λ (y : Setting). MayCall y.stack.frame.layout.scope (callee_number q) (callee_levels q)) is w.may;
+      here = subst (λ (y : Setting). callee_owner y.stack.frame.number q ≡ y.stack.frame.number) is w.here;
+      takes = subst (λ (y : Setting). parameters_of (procedure_by y.stack.frame.layout.scope.procedures (callee_number q)) ≡ w.shapes) is (w.takes ∙ append-nil w.shapes);
+      link = subst (λ (y : Setting). IsLink y.stack.frame.display (callee_levels q) (y.home.shadow (top_of before.stack.frame))) is (subst (λ (i : ℕ). IsLink ctx.stack.frame.display (callee_levels q) (ctx.home.shadow i)) first w.link);
+      value = subst (λ (y : Setting). HasValue q (y.home.shadow (top_of before.stack.frame + 3))) is (subst (λ (i : ℕ). HasValue q (ctx.home.shadow (i + 3))) first w.value);
       given = subst (λ (y : Setting). AllGiven y w.shapes done (top_of before.stack.frame + 4)) is (subst (λ (i : ℕ). AllGiven ctx w.shapes done (i + 4)) first w.given);
       end = w.end;
-      call = subst (λ (y : Setting). IsAt y.stack.frame.piece m.place (Cll proc (framed (all_words w.shapes))) w.end) is here;
+      call = subst (λ (y : Setting). IsAt y.stack.frame.piece m.place (call_code q (framed (all_words w.shapes))) w.end) is here;
       resumed = w.resumed;
-      returns = subst (λ (y : Setting). result_of (procedure_by y.stack.frame.layout.scope.procedures proc) ≡ result_in w.resumed) is w.returns;
+      returns = subst (λ (y : Setting). result_of (procedure_by y.stack.frame.layout.scope.procedures (callee_number q)) ≡ result_in w.resumed) is w.returns;
       under = w.before.stack.frame.pushed;
       pushed = refl;
       saved = subst (λ (y : Setting). AreSaved y.home.shadow w.resumed (w.before.stack.frame.at + (w.before.stack.frame.layout.frame + w.before.stack.frame.pushed))) is w.saved;

@@ -2,7 +2,7 @@
 use Rattle.std.proofs.Common.{◌≡◌, ℕ, ◌+◌, ◌<◌, ◌≤◌, inl, inr, Some, None, List, [], ◌∷◌, length, refl, sym, ap, ◌∙◌, subst, arith}
 use Rattle.std.specs.Prelude.{ℤ}
 use Rattle.lil_resolved.specs.{Kinds.{Kind, Shape}, Resolved.{Named, Exit, Statements}}
-use Rattle.lil_meaning.specs.{Items.{Called, Pass, PassPlace, PassAll, PassArray, Do, Looping, Turns, Holding, End, Item, Fill, Perform, Source}, Steps.exited}
+use Rattle.lil_meaning.specs.{Items.{Called, Pass, PassPlace, PassAll, PassArray, Calling, Do, Looping, Turns, Holding, End, Item, Fill, Perform, Source}, Steps.exited}
 use Rattle.lil_mcode.specs.Table.{State, going}
 use Rattle.lil_table.specs.Rows.{loop_place}
 use Rattle.lil_match.specs.{Goes.{Shared, Goes}, Running.running, Waits.{Setting, inside_with, frame_of, Frame, Mode, Quiet, Around, outside, Reach, TurnsTask, ItemWaits, RowsOf, Rows, Waiting}, Laid.{IsAround, around_self, around_more, shared_around, goes_around}, Steps.jumps_to}
@@ -76,10 +76,11 @@ item_leaves ctx (Perform (Turns x kind z step left body)) k f t p stack c a r to
 item_leaves ctx (Perform (Holding place)) k f t p stack c a r to known =
     out_of_with ctx r.before r.shape (loop_place r.outer.taken) (exited k) to c r.is (f r.before _ _ _ c r.outer r.then to (sym (ap (λ (o : Around). o.exit) r.around) ∙ known))
 item_leaves ctx (Perform (End n)) k f t p stack c a r to known = absurd (never_none ctx.stack.frame a to r.alone known)
-item_leaves ctx (Fill (Pass (Called q levels) kind done left)) k f t p stack c a r to known = absurd (pending_none a r.pending.outer to r.pending.around known)
-item_leaves ctx (Fill (PassPlace (Called q levels) done left)) k f t p stack c a r to known = absurd (pending_none a r.pending.outer to r.pending.around known)
-item_leaves ctx (Fill (PassAll (Called q levels) done left)) k f t p stack c a r to known = absurd (pending_none a r.pending.outer to r.pending.around known)
-item_leaves ctx (Fill (PassArray (Called q levels) high done left)) k f t p stack c a r to known = absurd (pending_none a r.pending.outer to r.pending.around known)
+item_leaves ctx (Fill (Pass (Called q) kind done left)) k f t p stack c a r to known = absurd (pending_none a r.pending.outer to r.pending.around known)
+item_leaves ctx (Fill (PassPlace (Called q) done left)) k f t p stack c a r to known = absurd (pending_none a r.pending.outer to r.pending.around known)
+item_leaves ctx (Fill (PassAll (Called q) done left)) k f t p stack c a r to known = absurd (pending_none a r.pending.outer to r.pending.around known)
+item_leaves ctx (Fill (PassArray (Called q) high done left)) k f t p stack c a r to known = absurd (pending_none a r.pending.outer to r.pending.around known)
+item_leaves ctx (Fill (Calling given)) k f t p stack c a r to known = absurd (pending_none a r.outer to r.around known)
 item_leaves ctx i k f t p stack c a r to known = f ctx _ _ _ c a r.then to known
 
 pub leaves : (k : List Item) (ctx : Setting) → Leaving ctx (exited k) (Rows ctx k)

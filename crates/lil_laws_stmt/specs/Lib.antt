@@ -3,6 +3,9 @@ pub mod Begins
 pub mod Births
 pub mod Blocks
 pub mod Calls
+pub mod Spelled
+pub mod Arguments
+pub mod Values
 pub mod Bodies
 pub mod Cases
 pub mod Changes

@@ -222,7 +222,7 @@ module _ (ctx : Setting) where
             (record {
               base = λ r e. base_old r (old_root r e);
               shape = λ r e. shape_old r (old_root r e);
-              targets = refl;
+              listed = refl;
               spaces = extends_self h.workspaces;
               owner = owner_beside;
               shadow = λ i. refl;

@@ -5,12 +5,11 @@ use Rattle.lil_match.specs.Homes.{IsWord, is_word_kept, address, shape_there}
 use Rattle.lil_match.specs.Parts.{part_append, offset_append as part_offset_append, part_fits, word_long}
 use Rattle.lil_table.specs.Rows.{given_words, copy_code, copies_code}
 use Rattle.lil_resolved.specs.Resolved.{Resolved, Arguments}
-use Rattle.lil_meaning.specs.Items.{Activation, Item}
+use Rattle.lil_meaning.specs.Items.{Activation, Item, Callee}
 use Rattle.lil_mcode.specs.Table.{Module}
 use Rattle.std.proofs.Common.{append_assoc, true, false}
 use Rattle.std.proofs.lemmas.List.{length-append}
-use Rattle.lil_match.specs.Waits.{Around, RowsOf, Pending, saved_words, top_of}
-use Rattle.lil_asm.specs.declared.instr.Instr.TheVariants.{Cll}
+use Rattle.lil_match.specs.Waits.{Around, RowsOf, call_code, Pending, saved_words, top_of}
 use Rattle.lil_table.specs.Rows.{IsAt, framed}
 use Rattle.lil_resolved.specs.Sound.{parameters_given}
 use Rattle.std.proofs.Common.{◌≡◌, ℕ, ◌+◌, ◌<◌, ◌≤◌, ◌⊎◌, inl, inr, List, [], ◌∷◌, ◌++◌, length, get_or, refl, sym, ap, ◌∙◌, subst, ⊎_elim, arith}
@@ -22,10 +21,10 @@ use Rattle.lil_match.specs.{Homes.{Own, Of, Fixed, Free, Home, Mem, Stays, Turns
 use Rattle.lil_match.specs.{Waits.{Frame, frames_of, Setting, at_home, pushing, GivenWords, AllGiven}, Known.{known_kept, each_known, each_comes, each_local}, Kept.{Keeps, EachAbove, sees_pushed, each_handed, first_words, stack_above, stands_kept, chained_kept}}
 use Rattle.lil_laws_stmt.specs.Painting.{free_fixed, painted, painted_there, painted_beside, Side, Before, Between, Behind', side}
 
-none_under : (x : ℕ) (q : List ℕ) (k j : Kind) → part_at (Word k) (x ∷ q) ≡ Word j → ⊥
+pub none_under : (x : ℕ) (q : List ℕ) (k j : Kind) → part_at (Word k) (x ∷ q) ≡ Word j → ⊥
 none_under x q k j e = (let gone : Absent ≡ Word j = e in cc)
 
-same_kind : (k j : Kind) → Word k ≡ Word j → k ≡ j
+pub same_kind : (k j : Kind) → Word k ≡ Word j → k ≡ j
 same_kind k j e = cc
 
 -- a setting in which so many words are pushed
@@ -225,7 +224,7 @@ module _ (ctx : Setting) (s : Source) (m : State) (shared : Shared ctx s m) (ws 
     shadow = λ i o. shadow_beside i (⊎_elim (λ (z : i < ctx.stack.base). inl (omega (arith, z, above.0, mine_first.top_is))) (λ (z : ctx.stack.limit ≤ i). inr (omega (arith, z, room), omega (arith, z, room))) o);
     base = λ r away e. refl;
     shape = λ r away e. refl;
-    targets = refl;
+    listed = refl;
     workspaces = extends_self h.workspaces;
     fixed = fixed_kept;
   }
@@ -237,7 +236,7 @@ module _ (ctx : Setting) (s : Source) (m : State) (shared : Shared ctx s m) (ws 
     shadow = λ i from below. shadow_beside i (inl (omega (arith, below, less, mine_first.top_is)));
     base = λ r seen e. refl;
     shape = λ r seen e. refl;
-    targets = refl;
+    listed = refl;
     workspaces = extends_self h.workspaces;
   }
 
@@ -267,9 +266,9 @@ codes_more o [] t = omega (arith, length-append (copy_code o t) [], copy_long o 
 codes_more o (u ∷ ts) t = omega (arith, length-append (copy_code o u) (copies_code (o + words u) (ts ++ t ∷ [])), length-append (copy_code o u) (copies_code (o + words u) ts), codes_more (o + words u) ts t)
 
 -- the next argument was pushed
-pub pending_more : (ctx : Setting) (k : List Item) (q levels : ℕ) (done : List Datum) (t : Shape) (d : Datum) (left : Arguments) (p c : ℕ) (a : Around) → Pending ctx q levels done (t ∷ []) left (RowsOf k) p c a → GivenWords ctx t d (top_of ctx.stack.frame)
-    → Pending (pushing ctx (words t)) q levels (done ++ d ∷ []) [] left (RowsOf k) p (length (copy_code 4 t) + c) a
-pending_more ctx k q levels done t d left p c a w word =
+pub pending_more : (ctx : Setting) (k : List Item) (q : Callee) (done : List Datum) (t : Shape) (d : Datum) (left : Arguments) (p c : ℕ) (a : Around) → Pending ctx q done (t ∷ []) left (RowsOf k) p c a → GivenWords ctx t d (top_of ctx.stack.frame)
+    → Pending (pushing ctx (words t)) q (done ++ d ∷ []) [] left (RowsOf k) p (length (copy_code 4 t) + c) a
+pending_more ctx k q done t d left p c a w word =
     let long : all_words (w.shapes ++ t ∷ []) ≡ all_words w.shapes + words t = more_words w.shapes t in
     let top : top_of ctx.stack.frame ≡ top_of w.before.stack.frame + saved_words w.resumed + 4 + all_words w.shapes =
     omega (arith, ap (λ (y : Setting). y.stack.frame.at) w.is, ap (λ (y : Setting). y.stack.frame.layout.frame) w.is, ap (λ (y : Setting). y.stack.frame.pushed) w.is) in
@@ -288,15 +287,17 @@ pending_more ctx k q levels done t d left p c a w word =
       later = w.later;
       count = omega (arith, w.count, codes_more 4 w.shapes t);
       may = w.may;
+      here = w.here;
       takes = w.takes ∙ sym (append_assoc w.shapes (t ∷ []) (parameters_given ctx.stack.frame.layout.scope left));
       room = omega (arith, w.room, long);
       link = w.link;
+      value = w.value;
       given = given_pushed ctx (words t) (w.shapes ++ t ∷ []) (done ++ d ∷ []) (top_of w.before.stack.frame + saved_words w.resumed + 4)
           (given_more ctx w.shapes done (top_of w.before.stack.frame + saved_words w.resumed + 4) t d w.given (subst (GivenWords ctx t d) top word));
       middle = w.middle;
       arguments = w.arguments;
       end = w.end;
-      call = subst (λ (n : ℕ). IsAt ctx.stack.frame.piece w.middle (Cll q (framed n)) w.end)
+      call = subst (λ (n : ℕ). IsAt ctx.stack.frame.piece w.middle (call_code q (framed n)) w.end)
           (let e : all_words w.shapes + ((words t + 0) + given_words ctx.stack.frame.layout.scope left) ≡ all_words (w.shapes ++ t ∷ []) + (0 + given_words ctx.stack.frame.layout.scope left) = omega (arith, long) in e) w.call;
       within = w.within;
       then = w.then;

@@ -5,7 +5,7 @@ use Rattle.std.proofs.lemmas.{Bool.{le-leb, leb-true, lt-ltb, cases_lt, and_from
 use Rattle.lil_base.specs.declared.fault.TrapKind.TheVariants as trap
 use Rattle.lil_base.specs.{Requests.{request_number, request_found, takes_array}, declared.request.Request.{Request, TheVariants.{Write, WriteString, WriteLn, WriteCard, WriteInt, WriteOct, WriteHex}}}
 use Rattle.lil_asm.specs.{Requests.request_words, declared.instr.Instr.TheVariants.{Liw, Lag, Svc}}
-use Rattle.lil_resolved.specs.{Kinds.{Kind, OfWhole, OfTruth, OfCharacter, OfEnumeration, OfSet, OfPointer, OfRange, is_plain, takes_value, stores_value, Scope, Scalar, Character, within, scalar_word, Shape, Absent, Word, Row, words, is_there, part_at, offset, along, shape_by}, Resolved.{Designator, Argument, Arguments, NoMore, Also, ByValue, OfPlace, OfAll, OfArray, OfText, OfOpened, kind_of, shape_of}, Sizes.argument_words, Sound.{request_parameters, parameter_of, parameters_given, is_text}}
+use Rattle.lil_resolved.specs.{Kinds.{Kind, OfWhole, OfTruth, OfCharacter, OfEnumeration, OfSet, OfPointer, OfProcedure, OfRange, is_plain, takes_value, stores_value, Scope, Scalar, Character, within, scalar_word, Shape, Absent, Word, Row, words, is_there, part_at, offset, along, shape_by}, Resolved.{Designator, Argument, Arguments, NoMore, Also, ByValue, OfPlace, OfAll, OfArray, OfText, OfOpened, Spelled, kind_of, shape_of}, Sizes.argument_words, Sound.{request_parameters, parameter_of, parameters_given, is_text}}
 use Rattle.lil_resolved.specs.Resolved as resolved
 use Rattle.lil_meaning.specs.{Items.{Place, part_of, got, Datum, Scalars, Places, Wholes, Opens, Texts, Requested, Pass, PassArray, Do, Passing, Item, Value, PlaceOf, Fill, Perform, Going, Source}, World.{World, Given, Single, Characters, characters_at, array_at, given_by, serve}, Steps.{trapped, with_items, handed_on, character_of, characters_from, as_array, given_of, level_of}}
 use Rattle.lil_mcode.specs.Table.{State, going, array_lies, request_row}
@@ -56,6 +56,7 @@ all_taken WriteHex = (refl, (refl, tt))
 -- where no reference is wanted, what may be stored is what is taken
 taken_plain : (k j : Kind) → is_plain k ≡ true → stores_value k j ≡ true → takes_value k j ≡ true
 taken_plain (OfPointer to) j plain stores = cc
+taken_plain (OfProcedure n) j plain stores = cc
 taken_plain (OfWhole t) j plain stores = only (takes_value (OfWhole t) j) stores
 taken_plain OfTruth j plain stores = only (takes_value OfTruth j) stores
 taken_plain OfCharacter j plain stores = only (takes_value OfCharacter j) stores
@@ -258,6 +259,7 @@ module _ (ctx : Setting) where
         })
     passing_goes r done (OfPlace d) left row = absurd row.part.rest.forms.served.0
     passing_goes r done (OfAll d) left row = absurd row.part.rest.forms.served.0
+    passing_goes r done (Spelled cs count) left row = absurd row.part.rest.forms.served.0
     passing_goes r done (OfArray copied d high) left row =
         let rest = row.part.rest in
         let y = rest.given.here in

@@ -202,7 +202,7 @@ module _ (ctx : Setting) (f g : Frame) (gs bs : List Frame) where
       shadow = λ a o. refl;
       base = λ r away e. refl;
       shape = λ r away e. beyond_it r away;
-      targets = refl;
+      listed = refl;
       workspaces = extends_self h.workspaces;
       fixed = fixed_kept;
     }
@@ -215,7 +215,7 @@ module _ (ctx : Setting) (f g : Frame) (gs bs : List Frame) where
     pub rows_back : Rows (at_home returning x) k (resumed_mode back.resumed) back.after (resumed_stack back.resumed) c back.outer
     rows_back =
         rows_kept k returning x ctx.stack.limit (base + 4) (low.1.0, low.1.1) (resumed_mode back.resumed) back.after (resumed_stack back.resumed) c back.outer
-        (record { pushed = λ i less. refl; shadow = λ a is below. refl; base = λ r e l. refl; shape = λ r e l. shape_kept r (sees_same r ∙ e); targets = refl; workspaces = extends_self h.workspaces })
+        (record { pushed = λ i less. refl; shadow = λ a is below. refl; base = λ r e l. refl; shape = λ r e l. shape_kept r (sees_same r ∙ e); listed = refl; workspaces = extends_self h.workspaces })
         back.then
       where
         sees_same : (r : Root) → sees (g ∷ (gs ++ bs)) r ≡ sees (g2 ∷ (gs ++ bs)) r

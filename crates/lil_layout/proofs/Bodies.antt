@@ -2,7 +2,7 @@
 use Rattle.std.proofs.Common.{◌≡◌, ℕ, ℤ, ◌+◌, List, [], ◌∷◌, ◌++◌, length, map, Option, Some, None, refl, ap, ◌∙◌, arith, length-append}
 use Rattle.std.specs.List.{sum_by}
 use Rattle.std.proofs.lemmas.List.Sums.{sum_by-cons}
-use Rattle.lil_resolved.specs.{declared.resolved.{RArgument.RArgument, RArm.RArm, RGuard.RGuard, RExpr.RExpr, RPlace.RPlace, RKind.RKind, RVariable.RVariable, Direction.Direction, Membership.Membership, Allocation.Allocation, RStmt.RStmt}, Views.{expression_of, place_of, assign_is, copy_is, text_is, change_is, member_changed_is, new_is, allocate_is, answer_is, call_is, while_is, repeat_is, for_is, inside_is, request_is, if_is, case_is, guard_is, arm_is, arguments_of, statement_of, statements_of, guard_of, arm_of, joined, guarded, armed, arms_of, else_of}, Resolved.{Statements, Empty, Then, Arms}}
+use Rattle.lil_resolved.specs.{declared.resolved.{RArgument.RArgument, RArm.RArm, RGuard.RGuard, RExpr.RExpr, RPlace.RPlace, RKind.RKind, RVariable.RVariable, Direction.Direction, Membership.Membership, Allocation.Allocation, RStmt.RStmt}, Views.{expression_of, place_of, assign_is, copy_is, text_is, change_is, member_changed_is, new_is, allocate_is, answer_is, call_is, call_value_is, while_is, repeat_is, for_is, inside_is, request_is, if_is, case_is, guard_is, arm_is, arguments_of, statement_of, statements_of, guard_of, arm_of, joined, guarded, armed, arms_of, else_of}, Resolved.{Statements, Empty, Then, Arms}}
 use Rattle.lil_resolved.specs.Sizes.{words_of, place_strings, expression_strings, arguments_strings, statement_strings, body_strings, arms_strings}
 use Rattle.lil_base.specs.declared.request.Request as request
 use Rattle.lil_resolved.specs.declared.resolved.RStmt.TheVariants as v
@@ -52,6 +52,11 @@ answer_words k e = ap (λ ss. length (body_strings ss)) (answer_is k e) ∙ alon
 
 pub call_words : (p n : ℕ) (given : List RArgument) → statement_words (v.Call p n given) ≡ sum_by argument_words given
 call_words p n given = ap (λ ss. length (body_strings ss)) (call_is p n given) ∙ alone (arguments_strings (arguments_of given)) ∙ given_words given
+
+pub call_value_words : (e : RExpr) (given : List RArgument) → statement_words (v.CallValue e given) ≡ expression_words e + sum_by argument_words given
+call_value_words e given =
+    let called = both (expression_strings (expression_of e)) (arguments_strings (arguments_of given)) in
+    ap (λ ss. length (body_strings ss)) (call_value_is e given) ∙ called ∙ ap (λ n. expression_words e + n) (given_words given)
 
 pub while_words : (e : RExpr) (ss : List RStmt) → statement_words (v.While e ss) ≡ expression_words e + body_words ss
 while_words e ss = ap (λ ss. length (body_strings ss)) (while_is e ss) ∙ both (expression_strings (expression_of e)) (body_strings (statements_of ss))

@@ -4,7 +4,7 @@ use Rattle.std.specs.List.{sum_by}
 use Rattle.std.proofs.lemmas.List.Sums.{sum_by-cons}
 use Rattle.lil_base.specs.declared.operator.{OneOp.OneOp, TwoOp.{TwoOp, TheVariants.{Or, And}}}
 use Rattle.lil_resolved.specs.{declared.resolved.{RExpr.RExpr, RRoot.RRoot, RPlace.{RPlace, out-RPlace}, RSelector.{RSelector, out-RSelector}, RMember.{RMember, out-RMember}, ROperation.{ROperation, out-ROperation}, RArgument.{RArgument, TheOpen.{RMember-F, RSelector-F}, TheFolds.{map-RMember, map-RSelector}}, RKind.RKind, RFunction.RFunction}, Kinds.{Kind, OfSet}, Resolved.{Argument, Designator, Held, Expression}, Sizes.{place_strings, expression_strings, argument_strings, arguments_strings}}
-use Rattle.lil_resolved.specs.Views.{empty_set, two_of, chained, selected, with_members, kind_view, member_layer, selector_layer, expression_of, root_of, place_of, selector_of, member_of, operation_of, argument_of, arguments_of, taken_is, one_is, chain_is, apply_is, set_is, invoke_is, operation_is, place_is, along_is, member_is, selector_is, single_is, span_is, index_is}
+use Rattle.lil_resolved.specs.Views.{empty_set, two_of, chained, selected, with_members, kind_view, member_layer, selector_layer, expression_of, root_of, place_of, selector_of, member_of, operation_of, argument_of, arguments_of, taken_is, one_is, chain_is, apply_is, set_is, invoke_is, invoke_value_is, operation_is, place_is, along_is, member_is, selector_is, single_is, span_is, index_is}
 use Rattle.lil_resolved.specs.declared.resolved.RArgument.TheOpen as o
 use Rattle.lil_resolved.specs.declared.resolved.RExpr.TheVariants as e
 use Rattle.lil_resolved.specs.declared.resolved.RRoot.TheVariants as t
@@ -76,6 +76,12 @@ set_words k ms = omega (arith, ap (λ (e : Expression). length (expression_strin
 
 pub invoke_words : (p n : ℕ) (k : RKind) (given : List RArgument) → expression_words (e.Invoke p n k given) ≡ sum_by argument_words given
 invoke_words p n k given = ap (λ (e : Expression). length (expression_strings e)) (invoke_is p n k given) ∙ given_words given
+
+pub invoke_value_words : (a : RExpr) (k : RKind) (given : List RArgument)
+    → expression_words (e.InvokeValue a k given) ≡ expression_words a + sum_by argument_words given
+invoke_value_words a k given =
+    let both = length-append (expression_strings (expression_of a)) (arguments_strings (arguments_of given)) in
+    omega (arith, ap (λ (e : Expression). length (expression_strings e)) (invoke_value_is a k given), both, given_words given)
 
 pub place_is_words : (p : RPlace) → place_words p ≡ root_words (out-RPlace p).root + sum_by selector_words (out-RPlace p).selectors
 place_is_words p = ap (λ (d : Designator). length (place_strings d)) (place_is p) ∙ selected_words (root_of (out-RPlace p).root) (out-RPlace p).selectors

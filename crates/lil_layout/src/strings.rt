@@ -9,7 +9,7 @@ use lil_resolved::{RArm, RExpr, RGuard, RPlace, RStmt};
 
 /// The words of the strings in a statement.
 #[cycle(statement)]
-#[tactic(auto, using(crate::proofs::Bodies::assign_words, crate::proofs::Bodies::copy_words, crate::proofs::Bodies::string_words, crate::proofs::Bodies::change_words, crate::proofs::Bodies::member_changed_words, crate::proofs::Bodies::new_words, crate::proofs::Bodies::allocate_words, crate::proofs::Bodies::answer_words, crate::proofs::Bodies::call_words, crate::proofs::Bodies::while_words, crate::proofs::Bodies::repeat_words, crate::proofs::Bodies::for_words, crate::proofs::Bodies::inside_words, crate::proofs::Bodies::request_words, crate::proofs::Bodies::if_words, crate::proofs::Bodies::case_words))]
+#[tactic(auto, using(crate::proofs::Bodies::assign_words, crate::proofs::Bodies::copy_words, crate::proofs::Bodies::string_words, crate::proofs::Bodies::change_words, crate::proofs::Bodies::member_changed_words, crate::proofs::Bodies::new_words, crate::proofs::Bodies::allocate_words, crate::proofs::Bodies::answer_words, crate::proofs::Bodies::call_words, crate::proofs::Bodies::call_value_words, crate::proofs::Bodies::while_words, crate::proofs::Bodies::repeat_words, crate::proofs::Bodies::for_words, crate::proofs::Bodies::inside_words, crate::proofs::Bodies::request_words, crate::proofs::Bodies::if_words, crate::proofs::Bodies::case_words))]
 fn statement_words(of: &RStmt) -> u32
     ensures { result ≡ min (spec.statement_words of.now) 4294967295 }
 {
@@ -23,6 +23,9 @@ fn statement_words(of: &RStmt) -> u32
         RStmt::Text(place, text) => place_words(place).saturating_add(string_words(text.get())),
         RStmt::New(place, _) => place_words(place),
         RStmt::Request(_, given) | RStmt::Call(_, _, given) => arguments_words(given.as_slice()),
+        RStmt::CallValue(value, given) => {
+            expression_words(value).saturating_add(arguments_words(given.as_slice()))
+        }
         RStmt::Answer(_, value) => expression_words(value),
         RStmt::If(guards, otherwise) => {
             let guarded = guards_words(guards.as_slice());

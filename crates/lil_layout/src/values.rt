@@ -22,12 +22,12 @@ pub(crate) fn string_words(of: &Text) -> u32
 
 /// The words of the strings in an expression.
 #[cycle(value)]
-#[tactic(auto, using(crate::proofs::Counted::taken_words, crate::proofs::Counted::one_words, crate::proofs::Counted::chain_words, crate::proofs::Counted::apply_words, crate::proofs::Counted::set_words, crate::proofs::Counted::invoke_words))]
+#[tactic(auto, using(crate::proofs::Counted::taken_words, crate::proofs::Counted::one_words, crate::proofs::Counted::chain_words, crate::proofs::Counted::apply_words, crate::proofs::Counted::set_words, crate::proofs::Counted::invoke_words, crate::proofs::Counted::invoke_value_words))]
 pub(crate) fn expression_words(of: &RExpr) -> u32
     ensures { result ≡ min (spec.expression_words of.now) 4294967295 }
 {
     match of {
-        RExpr::Constant(_, _) | RExpr::High(_, _) => 0,
+        RExpr::Constant(_, _) | RExpr::High(_, _) | RExpr::Routine(_, _) => 0,
         RExpr::Taken(place, _) => place_words(place),
         RExpr::One(_, value) | RExpr::Apply(_, value) => expression_words(value.get()),
         RExpr::Chain(first, operations) => {
@@ -36,6 +36,9 @@ pub(crate) fn expression_words(of: &RExpr) -> u32
         }
         RExpr::Set(_, members) => members_words(members.as_slice()),
         RExpr::Invoke(_, _, _, given) => arguments_words(given.as_slice()),
+        RExpr::InvokeValue(value, _, given) => {
+            expression_words(value.get()).saturating_add(arguments_words(given.as_slice()))
+        }
     }
 }
 
@@ -134,7 +137,7 @@ fn argument_words(of: &RArgument) -> u32
         RArgument::Value(_, value) => expression_words(value),
         RArgument::Place(place) | RArgument::All(place) | RArgument::Array(_, place, _) =>
             place_words(place),
-        RArgument::Text(text) => string_words(text.get()),
+        RArgument::Text(text) | RArgument::Spelled(text, _) => string_words(text.get()),
         RArgument::Opened(_, _, _) => 0,
     }
 }

@@ -4,7 +4,7 @@ use crate::page::{Page, shown};
 use crate::tokens::place_text;
 use lil_base::{Items, Memory};
 use lil_language::{Decl, Import, Unit};
-use lil_resolved::{RBase, RKind, RModule, RShape};
+use lil_resolved::{RBase, RDeclared, RKind, RModule, ROpening, RPassing, RShape, RSignature};
 use lil_text::Ident;
 use std::alloc::Global;
 
@@ -93,6 +93,10 @@ fn base_text(alloc: Global, base: RBase) -> Result<String, Memory> {
             return Ok(format!(in alloc; "enumeration of {count}")?);
         }
         RBase::Pointer(number) => return Ok(format!(in alloc; "pointer of type {number}")?),
+        RBase::Procedure(5) => "PROC",
+        RBase::Procedure(number) => {
+            return Ok(format!(in alloc; "procedure of type {number}")?);
+        }
     };
     Ok(String::from_str(alloc, word)?)
 }
@@ -115,11 +119,59 @@ fn shape_text(alloc: Global, module: &RModule, number: usize) -> Result<String, 
     }
 }
 
-/// Whether the type with this number has parts, or is that of pointers: then it has a line of its own.
+fn is_one_of(variables: &[RDeclared], number: usize) -> bool {
+    variables.iter().any(|variable| variable.shape == number)
+}
+
+fn has_part(shape: &RShape, number: usize) -> bool {
+    match shape {
+        RShape::Fields(fields) => fields.as_slice().iter().any(|field| field.shape == number),
+        RShape::Elements(elements) => elements.shape == number,
+        RShape::Word(_) | RShape::Absent => false,
+    }
+}
+
+fn is_handed_over(signature: &RSignature, number: usize) -> bool {
+    let parameters = signature.parameters.as_slice();
+    parameters.iter().any(|parameter| parameter.shape == number)
+}
+
+/// Whether a pointer leads to something of this type. A type that isn't one of pointers has itself as its target.
+fn is_pointed_to(module: &RModule, number: usize) -> bool {
+    for (pointer, target) in module.targets.as_slice().iter().enumerate() {
+        if pointer != number && *target == number {
+            return true;
+        }
+    }
+    false
+}
+
+/// Whether a variable, a part of one, what a pointer leads to or a parameter is of the type with this number. Each heading has a
+/// procedure type of its own, of which nothing is.
+fn is_used(module: &RModule, number: usize) -> bool {
+    let shapes = module.shapes.as_slice();
+    let procedures = module.procedures.as_slice();
+    let signatures = module.signatures.as_slice();
+    is_one_of(module.variables.as_slice(), number)
+        || procedures
+            .iter()
+            .any(|of| is_one_of(of.heading.locals.as_slice(), number))
+        || shapes.iter().any(|shape| has_part(shape, number))
+        || is_pointed_to(module, number)
+        || signatures
+            .iter()
+            .any(|signature| is_handed_over(signature, number))
+}
+
+/// Whether the type with this number has parts, or is that of pointers, or of procedures in use but PROC: then it has a line of
+/// its own.
 fn is_listed(module: &RModule, number: usize) -> bool {
     match module.shapes.get(number) {
         Some(RShape::Fields(_)) | Some(RShape::Elements(_)) => true,
-        Some(RShape::Word(kind)) => kind.base == RBase::Pointer(number),
+        Some(RShape::Word(kind)) => {
+            kind.base == RBase::Pointer(number)
+                || (number != 5 && kind.base == RBase::Procedure(number) && is_used(module, number))
+        }
         Some(RShape::Absent) | None => false,
     }
 }
@@ -146,7 +198,39 @@ fn show_type(page: &mut Page, module: &RModule, number: usize) -> Result<(), Mem
             )?;
             page.line(line.as_str())
         }
+        Some(RShape::Word(kind)) if kind.base == RBase::Procedure(number) => {
+            show_signature(page, module, number)
+        }
         _ => show_pointer(page, module, number),
+    }
+}
+
+/// Shows what procedures of the type with this number have: their parameters, and what they return.
+fn show_signature(page: &mut Page, module: &RModule, number: usize) -> Result<(), Memory> {
+    let Some(signature) = module.signatures.get(number) else {
+        return Ok(());
+    };
+    let alloc = page.alloc();
+    page.line(format!(in alloc; "{number:>9}  a procedure")?.as_str())?;
+    for (place, parameter) in signature.parameters.as_slice().iter().enumerate() {
+        let what = shape_text(alloc, module, parameter.shape)?;
+        let passing = passing_text(parameter.passing);
+        let line = format!(in alloc; "             parameter {place}: {passing}{what}")?;
+        page.line(line.as_str())?;
+    }
+    if let Some(kind) = signature.result {
+        let what = kind_text(alloc, kind)?;
+        page.line(format!(in alloc; "             result: {what}")?.as_str())?;
+    }
+    Ok(())
+}
+
+fn passing_text(passing: RPassing) -> &'static str {
+    match passing {
+        RPassing::ByValue => "",
+        RPassing::ByPlace => "VAR ",
+        RPassing::Open(ROpening::Copied) => "ARRAY OF ",
+        RPassing::Open(ROpening::Lent) => "VAR ARRAY OF ",
     }
 }
 
@@ -160,7 +244,7 @@ fn show_pointer(page: &mut Page, module: &RModule, number: usize) -> Result<(), 
     page.line(format!(in alloc; "{number:>9}  a pointer to {what}")?.as_str())
 }
 
-/// Shows the types that have parts or are those of pointers, by their numbers.
+/// Shows the types that have parts or are those of pointers or procedures, by their numbers.
 pub(crate) fn show_types(page: &mut Page, module: &RModule) -> Result<(), Memory> {
     let mut begun = false;
     for number in 0..module.shapes.len() {

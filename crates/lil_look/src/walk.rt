@@ -38,7 +38,9 @@ fn is_last(ending: Ending, instr: Instr, after: Option<Step>) -> bool {
         Ending::Turns => matches!(instr, Instr::Fri(_, _, _)),
         Ending::Kept => matches!(instr, Instr::Slw(_)),
         Ending::Effect => match instr {
-            Instr::Cll(_, _) => !matches!(after, Some(step) if matches!(step.instr, Instr::Rst(_))),
+            Instr::Cll(_, _) | Instr::Clf(_) => {
+                !matches!(after, Some(step) if matches!(step.instr, Instr::Rst(_)))
+            }
             _ => matches!(
                 instr,
                 Instr::Sgw(_)

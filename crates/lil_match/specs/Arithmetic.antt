@@ -3,7 +3,7 @@ use Rattle.std.proofs.Common.{◌≡◌, ◌==◌, Bool, true, false, cond, not,
 use Rattle.std.specs.Prelude.{ℤ, pos, ◌-ℤ◌, ◌≤ℤ◌, nat_abs}
 use Rattle.std.proofs.lemmas.{Int.ints}
 use Rattle.lil_base.specs.{Words.{Whole, Cardinal, Integer, in_type, is_zero, kept, sum, difference, product, quotient, remainder, negation, absolute, number_of, word_of}, declared.fault.ArithFault.{ArithFault, TheVariants.DivZero}, Laws.{number_of-word, kept_ok}}
-use Rattle.lil_resolved.specs.Kinds.{Kind, OfWhole, OfTruth, OfCharacter, OfEnumeration, OfSet, OfPointer, is_base, compared_as, Scalar, Number, Truth, Character, SetOf, ToObject, ToWorkspace, Nil, within, scalar_word, ordinal_of}
+use Rattle.lil_resolved.specs.Kinds.{Kind, OfWhole, OfTruth, OfCharacter, OfEnumeration, OfSet, OfPointer, OfProcedure, is_base, compared_as, Scalar, Number, Truth, Character, SetOf, ToObject, ToWorkspace, ToProcedure, Nil, within, scalar_word, ordinal_of}
 use Rattle.lil_meaning.specs.Steps.{whole_of, is_same, is_other}
 use Rattle.lil_mcode.specs.Control.{above}
 
@@ -22,6 +22,8 @@ reads_ordinal OfSet (SetOf s) base h = refl
 reads_ordinal (OfPointer to) (ToObject o) base h = refl
 reads_ordinal (OfPointer to) (ToWorkspace w) base h = refl
 reads_ordinal (OfPointer to) Nil base h = refl
+reads_ordinal (OfProcedure n) (ToProcedure m p) base h = refl
+reads_ordinal (OfProcedure n) Nil base h = refl
 reads_ordinal k v base h = cc
 
 pub reads : (t : Whole) (v : Scalar) → within (OfWhole t) v ≡ true → number_of t (scalar_word v) ≡ whole_of v

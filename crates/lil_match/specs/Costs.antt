@@ -4,7 +4,7 @@ use Rattle.lil_table.specs.Rows.{given_words}
 use Rattle.std.proofs.Common.{◌≡◌, ℕ, ◌+◌, ◌≤◌, ⊎_elim, List, [], ◌∷◌, Option, sym, ap, ◌∙◌, subst, arith}
 use Rattle.std.specs.Prelude.{slice_get}
 use Rattle.lil_resolved.specs.{Kinds.Shape, Resolved.{Arguments, Resolved}}
-use Rattle.lil_meaning.specs.{Items.{loaded_at, Datum, Called, Pass, PassPlace, PassAll, PassArray, Turns, Holding, End, Item, Fill, Perform, Activation, Source}, Need.{frame_of, copies_of, cost, unless_body, with_callers, chain}, Steps.{current, owner_of, procedure_of}}
+use Rattle.lil_meaning.specs.{Items.{loaded_at, Datum, Called, Pass, PassPlace, PassAll, PassArray, Calling, Callee, callee_number, callee_owner, Turns, Holding, End, Item, Fill, Perform, Activation, Source}, Need.{frame_of, copies_of, cost, unless_body, with_callers, chain}, Steps.{current, owner_of, procedure_of}}
 use Rattle.lil_mcode.specs.Table.{Module, State}
 use Rattle.lil_match.specs.{Homes.{Owner, Home}, Waits.{Mode, Around, Frame, Setting, with_frames, Pending, Resumed, AStatement, AValue, AreSaved, saved_words, Behind, RowsOf, Rows}, Goes.{Stands, IsKnown, EachKnown, Shared}, Steps.closed}
 
@@ -40,11 +40,11 @@ each_costs library loaded table acts h [] e = tt
 each_costs library loaded table acts h (f ∷ fs) e = (known_costs library loaded table acts h f e.0, each_costs library loaded table acts h fs e.1)
 
 -- during a call's arguments, what is pushed and what is to be takes no more than the call
-pub pending_cost : (ctx : Setting) (k : List Item) (q levels : ℕ) (done : List Datum) (next : List Shape) (left : Arguments) (p c : ℕ) (a : Around) → Pending ctx q levels done next left (RowsOf k) p c a
+pub pending_cost : (ctx : Setting) (k : List Item) (q : Callee) (done : List Datum) (next : List Shape) (left : Arguments) (p c : ℕ) (a : Around) → Pending ctx q done next left (RowsOf k) p c a
     → EachCosts ctx.library ctx.loaded ctx.activations (ctx.stack.frame ∷ ctx.stack.callers)
     → ((y : Setting) (t : Mode) (p : ℕ) (stack : List ℕ) (c : ℕ) (a : Around) → Rows y k t p stack c a → EachCosts y.library y.loaded y.activations (y.stack.frame ∷ y.stack.callers) → cost_of (y.stack.frame ∷ y.stack.callers) ≤ chain y.library y.loaded y.activations k)
-    → cost_of (ctx.stack.frame ∷ ctx.stack.callers) + (all_words next + given_words ctx.stack.frame.layout.scope left) ≤ (frame_of (loaded_at ctx.library ctx.loaded (owner_of (slice_get ctx.activations (current k)))) q + 17) + chain ctx.library ctx.loaded ctx.activations k
-pending_cost ctx k q levels done next left p c a w e rest =
+    → cost_of (ctx.stack.frame ∷ ctx.stack.callers) + (all_words next + given_words ctx.stack.frame.layout.scope left) ≤ (frame_of (loaded_at ctx.library ctx.loaded (callee_owner (owner_of (slice_get ctx.activations (current k))) q)) (callee_number q) + 17) + chain ctx.library ctx.loaded ctx.activations k
+pending_cost ctx k q done next left p c a w e rest =
     let inner = subst (λ (y : Setting). EachCosts y.library y.loaded y.activations (y.stack.frame ∷ y.stack.callers)) w.is e in
     let below = rest w.before _ w.after _ w.later w.outer w.then (record { takes = inner.0.takes; rest = inner.0.rest; owner = inner.0.owner }, inner.1) in
     let chain_is : chain ctx.library ctx.loaded ctx.activations k ≡ chain w.before.library w.before.loaded w.before.activations k = ap (λ (y : Setting). chain y.library y.loaded y.activations k) w.is in
@@ -53,7 +53,8 @@ pending_cost ctx k q levels done next left p c a w e rest =
     ∙ (let e : (w.before.stack.frame.layout.frame + ((saved_words w.resumed + (4 + all_words w.shapes)) + w.before.stack.frame.pushed)) + cost_of w.before.stack.callers ≡ (saved_words w.resumed + (4 + all_words w.shapes)) + ((w.before.stack.frame.layout.frame + w.before.stack.frame.pushed) + cost_of w.before.stack.callers) = omega arith in e) in
     let same : current k ≡ ctx.stack.frame.activation = closed w.before k _ w.after _ w.later w.outer w.then ∙ sym (ap (λ (y : Setting). y.stack.frame.activation) w.is) in
     let number : owner_of (slice_get ctx.activations (current k)) ≡ ctx.stack.frame.number = ap (λ (i : ℕ). owner_of (slice_get ctx.activations i)) same ∙ e.0.owner in
-    let frame : frame_of (loaded_at ctx.library ctx.loaded (owner_of (slice_get ctx.activations (current k)))) q ≡ frame_of (loaded_at ctx.library ctx.loaded ctx.stack.frame.number) q = ap (λ (i : ℕ). frame_of (loaded_at ctx.library ctx.loaded i) q) number in
+    let frame : frame_of (loaded_at ctx.library ctx.loaded (callee_owner (owner_of (slice_get ctx.activations (current k))) q)) (callee_number q) ≡ frame_of (loaded_at ctx.library ctx.loaded ctx.stack.frame.number) (callee_number q) =
+    ap (λ (i : ℕ). frame_of (loaded_at ctx.library ctx.loaded (callee_owner i q)) (callee_number q)) number ∙ ap (λ (i : ℕ). frame_of (loaded_at ctx.library ctx.loaded i) (callee_number q)) w.here in
     omega (arith, below, chain_is, cost_is, frame, w.room)
 
 -- a whole expression stack and its length
@@ -87,18 +88,27 @@ items_cost ctx (Perform (End n) ∷ k) t p stack c a r e =
     by (g ∷ gs) bs each back under =
         omega (arith, e.0.rest (chain ctx.library ctx.loaded ctx.activations k) ∙ ap (λ (p : ℕ). unless_body p (chain ctx.library ctx.loaded ctx.activations k)) back.called, back.pushed_is, saved_low ctx.home.shadow back.resumed _ back.saved, under (record g { pushed = back.under_saved }) gs bs _ _ _ _ back.then (record { takes = each.0.takes; rest = each.0.rest; owner = each.0.owner }, each.1))
     by [] bs each back under = omega arith
-items_cost ctx (Fill (Pass (Called q levels) kind done left) ∷ k) t p stack c a r e =
-    let all = pending_cost ctx k q levels done _ left _ _ a r.there.pending e (λ y t p stack c a. items_cost y k t p stack c a) in
+items_cost ctx (Fill (Pass (Called q) kind done left) ∷ k) t p stack c a r e =
+    let all = pending_cost ctx k q done _ left _ _ a r.there.pending e (λ y t p stack c a. items_cost y k t p stack c a) in
     omega (arith, all)
-items_cost ctx (Fill (PassPlace (Called q levels) done left) ∷ k) t p stack c a r e =
-    let all = pending_cost ctx k q levels done _ left _ _ a r.there.pending e (λ y t p stack c a. items_cost y k t p stack c a) in
+items_cost ctx (Fill (PassPlace (Called q) done left) ∷ k) t p stack c a r e =
+    let all = pending_cost ctx k q done _ left _ _ a r.there.pending e (λ y t p stack c a. items_cost y k t p stack c a) in
     omega (arith, all)
-items_cost ctx (Fill (PassAll (Called q levels) done left) ∷ k) t p stack c a r e =
-    let all = pending_cost ctx k q levels done _ left _ _ a r.there.pending e (λ y t p stack c a. items_cost y k t p stack c a) in
+items_cost ctx (Fill (PassAll (Called q) done left) ∷ k) t p stack c a r e =
+    let all = pending_cost ctx k q done _ left _ _ a r.there.pending e (λ y t p stack c a. items_cost y k t p stack c a) in
     omega (arith, all)
-items_cost ctx (Fill (PassArray (Called q levels) high done left) ∷ k) t p stack c a r e =
-    let all = pending_cost ctx k q levels done _ left _ _ a r.there.pending e (λ y t p stack c a. items_cost y k t p stack c a) in
+items_cost ctx (Fill (PassArray (Called q) high done left) ∷ k) t p stack c a r e =
+    let all = pending_cost ctx k q done _ left _ _ a r.there.pending e (λ y t p stack c a. items_cost y k t p stack c a) in
     omega (arith, all)
+items_cost ctx (Fill (Calling given) ∷ k) t p stack c a r e =
+    let w = r.there in
+    let inner = subst (λ (y : Setting). EachCosts y.library y.loaded y.activations (y.stack.frame ∷ y.stack.callers)) w.is e in
+    let below = items_cost w.before k _ w.after _ _ w.outer w.then (record { takes = inner.0.takes; rest = inner.0.rest; owner = inner.0.owner }, inner.1) in
+    let chain_is : chain ctx.library ctx.loaded ctx.activations k ≡ chain w.before.library w.before.loaded w.before.activations k = ap (λ (y : Setting). chain y.library y.loaded y.activations k) w.is in
+    let cost_is : cost_of (ctx.stack.frame ∷ ctx.stack.callers) ≡ saved_words w.resumed + cost_of (w.before.stack.frame ∷ w.before.stack.callers) =
+    ap (λ (y : Setting). cost_of (y.stack.frame ∷ y.stack.callers)) w.is
+    ∙ (let e : (w.before.stack.frame.layout.frame + (saved_words w.resumed + w.before.stack.frame.pushed)) + cost_of w.before.stack.callers ≡ saved_words w.resumed + ((w.before.stack.frame.layout.frame + w.before.stack.frame.pushed) + cost_of w.before.stack.callers) = omega arith in e) in
+    omega (arith, below, chain_is, cost_is, saved_low ctx.home.shadow w.resumed _ w.saved)
 items_cost ctx (i ∷ k) t p stack c a r e =
     let rest = items_cost ctx k _ _ _ _ _ r.there.then e in
     omega (arith, rest)

@@ -156,7 +156,7 @@ module _ (activations : List Activation) (h : Home) where
 
 module _ (library : List Resolved) (loaded : List ℕ) (table : List Module) (activations : List Activation) (h : Home) where
   -- A frame's module is loaded, its activation runs in it, and its variables live where its layout says. The words of its strings, behind
-  -- the variables, never change. Its pointers point to what the home says.
+  -- the variables, never change. What it lists is what the home says.
   pub record IsKnown (f : Frame) : Type 0 where
     pub known : module_at table f.number ≡ Some f.own
     pub named : name_of (loaded_at library loaded f.number) ≡ f.own.name
@@ -176,8 +176,12 @@ module _ (library : List Resolved) (loaded : List ℕ) (table : List Module) (ac
     pub strings : (i : ℕ) → i < length f.layout.strings
         → (h.owner (f.own.base + (f.layout.words + i)) ≡ Fixed) × (h.shadow (f.own.base + (f.layout.words + i)) ≡ get_or f.layout.strings i 0)
     pub inside : f.own.base + (f.layout.words + length f.layout.strings) ≤ 65535
-    pub targets : f.layout.scope.targets ≡ h.targets
-    pub own_targets : targets_of (loaded_at library loaded f.number) ≡ h.targets
+    pub targets : f.layout.scope.targets ≡ h.listed.targets
+    pub own_targets : targets_of (loaded_at library loaded f.number) ≡ h.listed.targets
+    pub signatures : f.layout.scope.signatures ≡ h.listed.signatures
+    pub outlines : f.layout.scope.procedures ≡ h.listed.procedures
+    pub here : f.number ≡ h.listed.number
+    pub number : f.layout.number ≡ f.number
 
   abbrev pub EachKnown : List Frame → Type 0
   EachKnown [] = Unit {0}
@@ -333,7 +337,7 @@ pub record Touches (h h' : Home) (fs : List Frame) (low high : ℕ) : Type 0 whe
   pub shadow : (a : ℕ) → (a < low) ⊎ (high ≤ a) → h'.shadow a ≡ h.shadow a
   pub base : (r : Root) → beyond fs r ≡ true → lives h r ≡ true → h'.base r ≡ h.base r
   pub shape : (r : Root) → beyond fs r ≡ true → lives h r ≡ true → h'.shape r ≡ h.shape r
-  pub targets : h'.targets ≡ h.targets
+  pub listed : h'.listed ≡ h.listed
   pub workspaces : Extends h'.workspaces h.workspaces
   pub fixed : (a : ℕ) → h.owner a ≡ Fixed → (h'.owner a ≡ Fixed) × (h'.shadow a ≡ h.shadow a)
 

@@ -1,10 +1,10 @@
 -- Where the meaning's cells lie in the store.
 use Rattle.std.proofs.Common.{◌≡◌, ℕ, zero, suc, ◌+◌, ◌-◌, ◌*◌, ◌<◌, ◌≤◌, Bool, true, false, eqb, List, [], ◌∷◌, ◌++◌, length, get_or, set, take, drop, refl, sym, ap, ◌∙◌, subst, ◌⊎◌, inl, inr, ⊎_elim, arith, length-set, length-drop}
 use Rattle.std.proofs.lemmas.{Bool.{eq-eqb, ltb-true, ne_eqb, cases_Bool, cases_eq, cases_lt, eqb-true, and_parts, and_from}, List.{get_or-set_same, get_or-set_other, get_or-take, get_or-drop, length-take-le}, Int.ints}
-use Rattle.std.specs.Prelude.{◌==◌, pos, nat_lt, nat_le, if◌then◌else◌}
+use Rattle.std.specs.Prelude.{Some, slice_get, ◌==◌, pos, nat_lt, nat_le, if◌then◌else◌}
 use Rattle.lil_base.specs.{Words.{Cardinal, between}, Sets.set_word}
 use Rattle.lil_resolved.specs.{Members.no_members, MemberLaws.word_none}
-use Rattle.lil_resolved.specs.Kinds.{Pointee, Objects, Workspaces, Kind, OfWhole, OfTruth, OfCharacter, OfEnumeration, OfSet, OfPointer, OfRange, base_of, is_plain, alike, takes_value, Scalar, Number, Truth, Character, SetOf, ToObject, ToWorkspace, Nil, is_reference, within, scalar_word, ordinal_of, zero_of, Shape, Absent, Word, Row, words, is_there, part_at, offset, shape_at}
+use Rattle.lil_resolved.specs.Kinds.{Pointee, Objects, Workspaces, Kind, OfWhole, OfTruth, OfCharacter, OfEnumeration, OfSet, OfPointer, OfProcedure, OfRange, base_of, is_plain, alike, takes_value, Scalar, Number, Truth, Character, SetOf, ToObject, ToWorkspace, ToProcedure, procedure_word, Nil, is_reference, within, scalar_word, ordinal_of, zero_of, Shape, Absent, Word, Row, Signature, Outline, outline_signature, procedure_by, words, is_there, part_at, offset, shape_at}
 use Rattle.lil_resolved.specs.Sound.{is_character, is_text}
 use Rattle.lil_meaning.specs.Items.{Root, Global, Local, Object, Place, part_of, Cells, Under, under, rest_behind, at_rest, same_root, stored, alone, text_under}
 use Rattle.lil_frames.specs.Words.{spliced}
@@ -17,6 +17,14 @@ pub data Owner : Type 0 where
   Fixed : Owner
   Free : (base : ℕ) → Owner
 
+-- what is said of the module whose words these are: what pointers point to and what procedures of procedure types have, by the numbers of their
+-- types, its procedures, from number 1, and its own number
+pub record Listed : Type 0 where
+  pub targets : List Shape
+  pub signatures : List Signature
+  pub procedures : List Outline
+  pub number : ℕ
+
 pub record Home : Type 0 where
   pub base : Root → ℕ
   -- absent where the root does not live
@@ -24,8 +32,7 @@ pub record Home : Type 0 where
   pub owner : ℕ → Owner
   -- what the machine's own words and those that never change are
   pub shadow : ℕ → ℕ
-  -- what pointers point to, by the numbers of their types
-  pub targets : List Shape
+  pub listed : Listed
   -- where the workspaces begin, by their numbers
   pub workspaces : List ℕ
 
@@ -36,16 +43,27 @@ address h p = h.base p.root + offset (h.shape p.root) p.path
 abbrev pub shape_there : Home → Place → Shape
 shape_there h p = part_at (h.shape p.root) p.path
 
--- the word of a scalar: of a reference the first word of that object or workspace, else its number
+-- the word of a scalar: of a reference the first word of that object or workspace, of a procedure those of its module and its own number, else its number
 abbrev pub word_for : Home → Scalar → ℕ
 word_for h (ToObject o) = h.base (Object o)
 word_for h (ToWorkspace w) = get_or h.workspaces w 0
+word_for h (ToProcedure m p) = procedure_word m p
 word_for h v = scalar_word v
 
--- a pointer leads to an object that is what its type points to, an address to a workspace
+-- a procedure of the module that is a value of the procedure type with this number: it is declared in no other, and has what that asks
+pub record IsRoutine (listed : Listed) (n m p : ℕ) : Type 0 where
+  pub here : m ≡ listed.number
+  pub low : p < 256
+  pub its : Outline
+  pub known : procedure_by listed.procedures p ≡ Some its
+  pub declared : its.around ≡ []
+  pub same : slice_get listed.signatures n ≡ Some (outline_signature its)
+
+-- a pointer leads to an object that is what its type points to, an address to a workspace, and a procedure is one of its type
 abbrev pub Refers : Home → Kind → Scalar → Type 0
-Refers h (OfPointer (Objects n)) (ToObject o) = (is_there (h.shape (Object o)) ≡ true) × (h.shape (Object o) ≡ shape_at h.targets n)
+Refers h (OfPointer (Objects n)) (ToObject o) = (is_there (h.shape (Object o)) ≡ true) × (h.shape (Object o) ≡ shape_at h.listed.targets n)
 Refers h (OfPointer Workspaces) (ToWorkspace w) = w < length h.workspaces
+Refers h (OfProcedure n) (ToProcedure m p) = IsRoutine h.listed n m p
 Refers h (OfRange base low high) v = Refers h base v
 Refers h _ _ = Unit {0}
 
@@ -71,6 +89,7 @@ lives h r = is_there (h.shape r)
 plain_value : (k : Kind) (v : Scalar) → is_plain k ≡ true → within k v ≡ true → is_reference v ≡ false
 plain_value (OfRange base low high) v plain e = plain_value base v plain (and_parts (within base v) (between low (ordinal_of v) high) e).0
 plain_value (OfPointer to) v plain e = cc
+plain_value (OfProcedure n) v plain e = cc
 plain_value (OfWhole t) (Number z) plain e = refl
 plain_value OfTruth (Truth b) plain e = refl
 plain_value OfCharacter (Character c) plain e = refl
@@ -81,6 +100,7 @@ plain_value k v plain e = cc
 word_alone : (h : Home) (v : Scalar) → is_reference v ≡ false → word_for h v ≡ scalar_word v
 word_alone h (ToObject o) e = cc
 word_alone h (ToWorkspace w) e = cc
+word_alone h (ToProcedure m p) e = cc
 word_alone h v e = refl
 
 pub plain_word : (h : Home) (k : Kind) (v : Scalar) → is_plain k ≡ true → within k v ≡ true → word_for h v ≡ scalar_word v
@@ -89,6 +109,7 @@ plain_word h k v plain e = word_alone h v (plain_value k v plain e)
 pub plain_refers : (h : Home) (k : Kind) (v : Scalar) → is_plain k ≡ true → Refers h k v
 plain_refers h (OfRange base low high) v plain = plain_refers h base v plain
 plain_refers h (OfPointer n) v plain = cc
+plain_refers h (OfProcedure n) v plain = cc
 plain_refers h _ v plain = tt
 
 pub refers_base : (h : Home) (k : Kind) (v : Scalar) → Refers h k v → Refers h (base_of k) v
@@ -189,7 +210,7 @@ zero_is h k v w fresh none = record {
 
 -- homes that agree on the objects that live and on the workspaces have the same words, and pointers lead to the same
 module _ (h x : Home) (base : (o : ℕ) → is_there (h.shape (Object o)) ≡ true → x.base (Object o) ≡ h.base (Object o)) (shape : (o : ℕ) → is_there (h.shape (Object o)) ≡ true → x.shape (Object o) ≡ h.shape (Object o))
-    (targets : x.targets ≡ h.targets) (workspaces : Extends x.workspaces h.workspaces) where
+    (listed : x.listed ≡ h.listed) (workspaces : Extends x.workspaces h.workspaces) where
   pointer_kept : (to : Pointee) (v : Scalar) → within (OfPointer to) v ≡ true → Refers h (OfPointer to) v → word_for h v ≡ word_for x v
   pointer_kept (Objects n) (ToObject o) e r = sym (base o r.0)
   pointer_kept Workspaces (ToWorkspace w) e r = sym (workspaces w r).1
@@ -202,6 +223,9 @@ module _ (h x : Home) (base : (o : ℕ) → is_there (h.shape (Object o)) ≡ tr
   pub word_kept : (k : Kind) (v : Scalar) → within k v ≡ true → Refers h k v → word_for h v ≡ word_for x v
   word_kept (OfRange under low high) v e r = word_kept under v (and_parts (within under v) (between low (ordinal_of v) high) e).0 r
   word_kept (OfPointer to) v e r = pointer_kept to v e r
+  word_kept (OfProcedure n) (ToProcedure m p) e r = refl
+  word_kept (OfProcedure n) Nil e r = refl
+  word_kept (OfProcedure n) v e r = cc
   word_kept (OfWhole t) v e r = plain_kept (OfWhole t) v refl e
   word_kept OfTruth v e r = plain_kept OfTruth v refl e
   word_kept OfCharacter v e r = plain_kept OfCharacter v refl e
@@ -210,8 +234,9 @@ module _ (h x : Home) (base : (o : ℕ) → is_there (h.shape (Object o)) ≡ tr
 
   pub refers_kept : (k : Kind) (v : Scalar) → Refers h k v → Refers x k v
   refers_kept (OfRange under low high) v r = refers_kept under v r
-  refers_kept (OfPointer (Objects n)) (ToObject o) r = (ap is_there (shape o r.0) ∙ r.0, shape o r.0 ∙ r.1 ∙ ap (λ (ts : List Shape). shape_at ts n) (sym targets))
+  refers_kept (OfPointer (Objects n)) (ToObject o) r = (ap is_there (shape o r.0) ∙ r.0, shape o r.0 ∙ r.1 ∙ ap (λ (ls : Listed). shape_at ls.targets n) (sym listed))
   refers_kept (OfPointer Workspaces) (ToWorkspace w) r = (workspaces w r).0
+  refers_kept (OfProcedure n) (ToProcedure m p) r = subst (λ (ls : Listed). IsRoutine ls n m p) (sym listed) r
   refers_kept _ v r = tt
 
   pub is_word_kept : (k : Kind) (v : Scalar) (w : ℕ) → IsWord h k v w → IsWord x k v w

@@ -6,12 +6,12 @@ use Rattle.std.proofs.Common.{◌≡◌, ℕ, zero, suc, ◌+◌, ◌<◌, ◌�
 use Rattle.std.proofs.lemmas.{Bool.{ne_eqb}, Option.{none-some, same_Some}}
 use Rattle.std.specs.Prelude.{Option, Some, None, slice_get}
 use Rattle.lil_resolved.specs.{Kinds.{Workspaces, Kind, OfCharacter, OfSet, OfPointer, Scalar, within, Shape, Absent, Word, Row, Address, Opened, words as size, is_there, part_at, offset, element_of, all_words, offsets_from}, Resolved.{Resolved, Arguments, kind_of, shape_of}, Plain.parameter_variable}
-use Rattle.lil_meaning.specs.Items.{Root, Global, Local, Object, Place, Datum, Scalars, Places, Wholes, Opens, Texts, Requested, Called, IndexAt, AlongAt, StoreAt, CopyFrom, ChangeAt, RightOf, MemberOf, MembersFrom, MembersTo, MemberAt, AllocateAt, Pass, PassPlace, PassAll, PassArray, LimitOf, Passing, Looping, Turns, Holding, End, Item, Value, Fill, Perform, Activation, Source}
+use Rattle.lil_meaning.specs.Items.{Root, Global, Local, Object, Place, Datum, Scalars, Places, Wholes, Opens, Texts, Callee, callee_levels, Requested, Called, IndexAt, AlongAt, StoreAt, CopyFrom, ChangeAt, RightOf, MemberOf, MembersFrom, MembersTo, MemberAt, AllocateAt, Pass, PassPlace, PassAll, PassArray, Calling, LimitOf, Passing, Looping, Turns, Holding, End, Item, Value, Fill, Perform, Activation, Source}
 use Rattle.lil_meaning.specs.Steps.{outer_of, surrounding}
 use Rattle.lil_mcode.specs.Table.{Module, StackRegisters, State, stack_of}
 use Rattle.lil_table.specs.Rows.{Layout, holding, Access, OnTop, loop_place}
 use Rattle.lil_match.specs.{Parts.no, Homes.{word_for, word_kept, refers_kept, is_word_kept, Refers, plain_refers, takes_plain, Extends, extends_self, lives, address, shape_there, Owner, Own, Fixed, own_fixed, Home, mem_shadowed, shadowed, replaced}}
-use Rattle.lil_match.specs.{Waits.{Mode, Quiet, ValueOf, AtPlace, Reach, AfterJumps, Onward, Part, Around, Frame, own_words, locals_in, top_of, outside, frames_of, Setting, at_home, renewed, inside_with, pushing, with_frames, ArrayOn, DatumOn, DataOn, IsLink, GivenAll, GivenWords, AllGiven, Pending, Resumed, AStatement, AValue, AreSaved, saved_words, sees, TurnsTask, Reaches, HasPlace, HasSet, needs, Behind, RowsOf, Rows}, Known.{known_kept, each_known, each_comes, sees_more, each_local}}
+use Rattle.lil_match.specs.{Waits.{Mode, Quiet, ValueOf, AtPlace, Reach, AfterJumps, Onward, Part, Around, Frame, own_words, locals_in, top_of, outside, frames_of, Setting, at_home, renewed, inside_with, pushing, with_frames, ArrayOn, DatumOn, DataOn, IsLink, GivenAll, GivenWords, AllGiven, HasValue, Pending, CallingWaits, Resumed, AStatement, AValue, AreSaved, saved_words, sees, TurnsTask, Reaches, HasPlace, HasSet, needs, Behind, RowsOf, Rows}, Known.{known_kept, each_known, each_comes, sees_more, each_local}}
 use Rattle.lil_match.specs.Goes.{OwnWords, Stands, Grows, Linked, Chained, HasHanded, HasOpened, EachHanded, EachComes, Standing, Shared, Touches}
 
 -- the words that pending calls have put above the running frame stay
@@ -25,7 +25,7 @@ pub record Keeps (h x : Home) (fs : List Frame) (low top : ℕ) : Type 0 where
   pub shadow : (a : ℕ) → low ≤ a → a < top → x.shadow a ≡ h.shadow a
   pub base : (r : Root) → sees fs r ≡ true → lives h r ≡ true → x.base r ≡ h.base r
   pub shape : (r : Root) → sees fs r ≡ true → lives h r ≡ true → x.shape r ≡ h.shape r
-  pub targets : x.targets ≡ h.targets
+  pub listed : x.listed ≡ h.listed
   pub workspaces : Extends x.workspaces h.workspaces
 
 -- frames whose own words but their marks lie from a place on
@@ -39,13 +39,13 @@ keeps_under h x f fs low top less le pushed keeps = record {
   shadow = λ a from below. keeps.shadow a from (omega (arith, le, below));
   base = λ r e. keeps.base r (sees_more f fs r e);
   shape = λ r e. keeps.shape r (sees_more f fs r e);
-  targets = keeps.targets;
+  listed = keeps.listed;
   workspaces = keeps.workspaces;
 }
 
 pub keeps_lower : (h x : Home) (fs : List Frame) (low top less : ℕ) → less ≤ top → Keeps h x fs low top → Keeps h x fs low less
 keeps_lower h x fs low top less le keeps =
-    record { pushed = keeps.pushed; shadow = λ a from below. keeps.shadow a from (omega (arith, le, below)); base = keeps.base; shape = keeps.shape; targets = keeps.targets; workspaces = keeps.workspaces }
+    record { pushed = keeps.pushed; shadow = λ a from below. keeps.shadow a from (omega (arith, le, below)); base = keeps.base; shape = keeps.shape; listed = keeps.listed; workspaces = keeps.workspaces }
 
 -- where something lies, its root lives
 root_there : (t : Shape) (p : List ℕ) → is_there (part_at t p) ≡ true → is_there t ≡ true
@@ -87,10 +87,10 @@ module _ (ctx : Setting) (acts : List Activation) (x : Home) (n low top : ℕ) (
 
   -- the word of a value, and what it refers to
   word : (k : Kind) (v : Scalar) → within k v ≡ true → Refers h k v → word_for h v ≡ word_for x v
-  word = word_kept h x (λ o e. keeps.base (Object o) refl e) (λ o e. keeps.shape (Object o) refl e) keeps.targets keeps.workspaces
+  word = word_kept h x (λ o e. keeps.base (Object o) refl e) (λ o e. keeps.shape (Object o) refl e) keeps.listed keeps.workspaces
 
   refers : (k : Kind) (v : Scalar) → Refers h k v → Refers x k v
-  refers = refers_kept h x (λ o e. keeps.base (Object o) refl e) (λ o e. keeps.shape (Object o) refl e) keeps.targets keeps.workspaces
+  refers = refers_kept h x (λ o e. keeps.base (Object o) refl e) (λ o e. keeps.shape (Object o) refl e) keeps.listed keeps.workspaces
 
   set_kept : (u : Scalar) (stack below : List ℕ) → HasSet ctx u stack below → HasSet (renewed ctx acts x n) u stack below
   set_kept u stack below r = record { fits = r.fits; is = r.is ∙ ap (λ (w : ℕ). w ∷ below) (word OfSet u r.fits tt) }
@@ -118,7 +118,7 @@ module _ (ctx : Setting) (acts : List Activation) (x : Home) (n low top : ℕ) (
     cells = λ q k is.
         let small : offset t q < size t = omega (arith, part_fits t q (ap is_there is), word_long (part_at t q) k is) in
         subst (IsWord x k (u q)) (sym (same (offset t q) small))
-        (is_word_kept h x (λ o e. keeps.base (Object o) refl e) (λ o e. keeps.shape (Object o) refl e) keeps.targets keeps.workspaces k (u q) (h.shadow (at + offset t q)) (r.cells q k is));
+        (is_word_kept h x (λ o e. keeps.base (Object o) refl e) (λ o e. keeps.shape (Object o) refl e) keeps.listed keeps.workspaces k (u q) (h.shadow (at + offset t q)) (r.cells q k is));
   }
 
   pub words_given : (t : Shape) (d : Datum) (at : ℕ) → ((i : ℕ) → i < size t → x.shadow (at + i) ≡ h.shadow (at + i)) → GivenWords ctx t d at → GivenWords (renewed ctx acts x n) t d at
@@ -222,7 +222,7 @@ keeps_around ctx before x shape n low top less is le keeps =
       shadow = λ a from below. inner.shadow a from (omega (arith, le, below));
       base = λ r e. inner.base r (same r ∙ e);
       shape = λ r e. inner.shape r (same r ∙ e);
-      targets = inner.targets;
+      listed = inner.listed;
       workspaces = inner.workspaces;
     }
 
@@ -242,7 +242,7 @@ keeps_before ctx before x more low top is keeps =
       shadow = inner.shadow;
       base = λ r e. inner.base r (same r ∙ e);
       shape = λ r e. inner.shape r (same r ∙ e);
-      targets = inner.targets;
+      listed = inner.listed;
       workspaces = inner.workspaces;
     }
 
@@ -253,7 +253,7 @@ keeps_fewer h x f n fs low top fewer keeps = record {
   shadow = keeps.shadow;
   base = λ r e. keeps.base r (sym (sees_pushed f n fs r) ∙ e);
   shape = λ r e. keeps.shape r (sym (sees_pushed f n fs r) ∙ e);
-  targets = keeps.targets;
+  listed = keeps.listed;
   workspaces = keeps.workspaces;
 }
 
@@ -319,9 +319,9 @@ behind_kept k acts rows ctx x n low c above keeps r = by ctx.stack.callers ctx.s
     by [] [] above keeps r = r
 
 pub pending_kept : (k : List Item) (acts : List Activation) (rows : (ctx : Setting) (x : Home) (n low : ℕ) → Again k ctx acts x n low) (ctx : Setting) (x : Home) (n low : ℕ) → EachAbove low (frames_of ctx.stack)
-    → (q levels : ℕ) (done : List Datum) (next : List Shape) (left : Arguments) (p c : ℕ) (a : Around) → Keeps ctx.home x (frames_of ctx.stack) low (ctx.stack.frame.at + loop_place a.taken)
-    → Pending ctx q levels done next left (RowsOf k) p c a → Pending (renewed ctx acts x n) q levels done next left (RowsOf k) p c a
-pending_kept k acts rows ctx x n low above q levels done next left p c a keeps w =
+    → (q : Callee) (done : List Datum) (next : List Shape) (left : Arguments) (p c : ℕ) (a : Around) → Keeps ctx.home x (frames_of ctx.stack) low (ctx.stack.frame.at + loop_place a.taken)
+    → Pending ctx q done next left (RowsOf k) p c a → Pending (renewed ctx acts x n) q done next left (RowsOf k) p c a
+pending_kept k acts rows ctx x n low above q done next left p c a keeps w =
     let top : ℕ = top_of w.before.stack.frame in
     let under : ℕ = w.before.stack.frame.pushed in
     let below : ℕ = saved_words w.resumed in
@@ -341,10 +341,12 @@ pending_kept k acts rows ctx x n low above q levels done next left p c a keeps w
       later = w.later;
       count = w.count;
       may = w.may;
+      here = w.here;
       returns = w.returns;
       takes = w.takes;
       room = w.room;
-      link = subst (IsLink ctx.stack.frame.display levels) (sym (same below (omega arith))) w.link;
+      link = subst (IsLink ctx.stack.frame.display (callee_levels q)) (sym (same below (omega arith))) w.link;
+      value = subst (HasValue q) (sym (let e : top + below + 3 ≡ top + (below + 3) = omega arith in ap x.shadow e ∙ same (below + 3) (omega arith) ∙ ap ctx.home.shadow (sym e))) w.value;
       given = all_given ctx acts x n low (ctx.stack.frame.at + loop_place a.taken) keeps w.shapes done (top + below + 4)
           (λ i less. let e : top + below + 4 + i ≡ top + (below + (4 + i)) = omega arith in ap x.shadow e ∙ same (below + (4 + i)) (omega (arith, less)) ∙ ap ctx.home.shadow (sym e)) w.given;
       middle = w.middle;
@@ -357,6 +359,39 @@ pending_kept k acts rows ctx x n low above q levels done next left p c a keeps w
       then = rows w.before x n low (subst (λ (c : Setting). EachAbove low (frames_of c.stack)) w.is above) _ w.after _ w.later w.outer
           (subst (λ (t : ℕ). Keeps w.before.home x (frames_of w.before.stack) low (w.before.stack.frame.at + loop_place t)) (ap (λ (o : Around). o.taken) w.around)
           (keeps_before ctx w.before x (below + (4 + all_words w.shapes)) low (loop_place a.taken) w.is keeps))
+          w.then;
+    }
+
+-- so does what waits for the value of what is called
+calling_kept : (k : List Item) (acts : List Activation) (rows : (ctx : Setting) (x : Home) (n low : ℕ) → Again k ctx acts x n low) (ctx : Setting) (x : Home) (n low : ℕ) → EachAbove low (frames_of ctx.stack)
+    → (given : Arguments) (t : Mode) (p : ℕ) (stack : List ℕ) (c : ℕ) (a : Around) → Keeps ctx.home x (frames_of ctx.stack) low (ctx.stack.frame.at + loop_place a.taken)
+    → CallingWaits ctx given (RowsOf k) t p stack c a → CallingWaits (renewed ctx acts x n) given (RowsOf k) t p stack c a
+calling_kept k acts rows ctx x n low above given t p stack c a keeps w =
+    let top : ℕ = top_of w.before.stack.frame in
+    let under : ℕ = w.before.stack.frame.pushed in
+    let same : (i : ℕ) → i < saved_words w.resumed → x.shadow (top + i) ≡ ctx.home.shadow (top + i) =
+    λ i less.
+    let e : top + i ≡ ctx.stack.frame.at + (ctx.stack.frame.layout.frame + (under + i)) =
+    omega (arith, ap (λ (c : Setting). c.stack.frame.at) w.is, ap (λ (c : Setting). c.stack.frame.layout.frame) w.is) in
+    ap x.shadow e ∙ keeps.pushed (under + i) (omega (arith, less, ap (λ (c : Setting). c.stack.frame.pushed) w.is)) ∙ ap ctx.home.shadow (sym e) in
+    record {
+      kind = w.kind;
+      mode = w.mode;
+      empty = w.empty;
+      before = renewed w.before acts x n;
+      resumed = w.resumed;
+      is = ap (λ (c : Setting). renewed c acts x n) w.is;
+      saved = saved_kept ctx.home.shadow x.shadow w.resumed top same w.saved;
+      outer = w.outer;
+      around = w.around;
+      end = w.end;
+      here = w.here;
+      after = w.after;
+      restore = w.restore;
+      within = w.within;
+      then = rows w.before x n low (subst (λ (c : Setting). EachAbove low (frames_of c.stack)) w.is above) _ w.after _ c w.outer
+          (subst (λ (t : ℕ). Keeps w.before.home x (frames_of w.before.stack) low (w.before.stack.frame.at + loop_place t)) (ap (λ (o : Around). o.taken) w.around)
+          (keeps_before ctx w.before x (saved_words w.resumed) low (loop_place a.taken) w.is keeps))
           w.then;
     }
 
@@ -472,7 +507,7 @@ rows_renewed (Perform (End e) ∷ k) ctx acts x n low above t p stack c a keeps 
       behind = behind_kept k acts (λ y z i l. rows_renewed k y acts z i l) ctx x n low r.later above
           (keeps_lower ctx.home x (frames_of ctx.stack) low (ctx.stack.frame.at + loop_place a.taken) (ctx.stack.frame.at + 4) (omega arith) keeps) w.behind;
     })
-rows_renewed (Fill (Pass (Called q levels) kind done left) ∷ k) ctx acts x n low above t p stack c a keeps r =
+rows_renewed (Fill (Pass (Called q) kind done left) ∷ k) ctx acts x n low above t p stack c a keeps r =
     let w = r.there in
     jumps_same ctx.stack.frame.piece _ _ t p stack c a r (record {
       from = w.from;
@@ -483,9 +518,12 @@ rows_renewed (Fill (Pass (Called q levels) kind done left) ∷ k) ctx acts x n l
       test = w.test;
       start = w.start;
       push = w.push;
-      pending = pending_kept k acts (λ y z i l. rows_renewed k y acts z i l) ctx x n low above q levels done (Word kind ∷ []) left w.start r.later a keeps w.pending;
+      pending = pending_kept k acts (λ y z i l. rows_renewed k y acts z i l) ctx x n low above q done (Word kind ∷ []) left w.start r.later a keeps w.pending;
     })
-rows_renewed (Fill (PassPlace (Called q levels) done left) ∷ k) ctx acts x n low above t p stack c a keeps r =
+rows_renewed (Fill (Calling given) ∷ k) ctx acts x n low above t p stack c a keeps r =
+    let w = r.there in
+    jumps_same ctx.stack.frame.piece _ _ t p stack c a r (calling_kept k acts (λ y z i l. rows_renewed k y acts z i l) ctx x n low above given t r.start stack r.later a keeps w)
+rows_renewed (Fill (PassPlace (Called q) done left) ∷ k) ctx acts x n low above t p stack c a keeps r =
     let w = r.there in
     jumps_same ctx.stack.frame.piece _ _ t p stack c a r (record {
       of = w.of;
@@ -495,9 +533,9 @@ rows_renewed (Fill (PassPlace (Called q levels) done left) ∷ k) ctx acts x n l
       address = w.address;
       start = w.start;
       push = w.push;
-      pending = pending_kept k acts (λ y z i l. rows_renewed k y acts z i l) ctx x n low above q levels done (Address (shape_of ctx.stack.frame.layout.scope w.of) ∷ []) left w.start r.later a keeps w.pending;
+      pending = pending_kept k acts (λ y z i l. rows_renewed k y acts z i l) ctx x n low above q done (Address (shape_of ctx.stack.frame.layout.scope w.of) ∷ []) left w.start r.later a keeps w.pending;
     })
-rows_renewed (Fill (PassAll (Called q levels) done left) ∷ k) ctx acts x n low above t p stack c a keeps r =
+rows_renewed (Fill (PassAll (Called q) done left) ∷ k) ctx acts x n low above t p stack c a keeps r =
     let w = r.there in
     jumps_same ctx.stack.frame.piece _ _ t p stack c a r (record {
       of = w.of;
@@ -507,9 +545,9 @@ rows_renewed (Fill (PassAll (Called q levels) done left) ∷ k) ctx acts x n low
       address = w.address;
       start = w.start;
       push = w.push;
-      pending = pending_kept k acts (λ y z i l. rows_renewed k y acts z i l) ctx x n low above q levels done (shape_of ctx.stack.frame.layout.scope w.of ∷ []) left w.start r.later a keeps w.pending;
+      pending = pending_kept k acts (λ y z i l. rows_renewed k y acts z i l) ctx x n low above q done (shape_of ctx.stack.frame.layout.scope w.of ∷ []) left w.start r.later a keeps w.pending;
     })
-rows_renewed (Fill (PassArray (Called q levels) high done left) ∷ k) ctx acts x n low above t p stack c a keeps r =
+rows_renewed (Fill (PassArray (Called q) high done left) ∷ k) ctx acts x n low above t p stack c a keeps r =
     let w = r.there in
     jumps_same ctx.stack.frame.piece _ _ t p stack c a r (record {
       of = w.of;
@@ -525,7 +563,7 @@ rows_renewed (Fill (PassArray (Called q levels) high done left) ∷ k) ctx acts 
       start = w.start;
       push = w.push;
       copied = w.copied;
-      pending = pending_kept k acts (λ y z i l. rows_renewed k y acts z i l) ctx x n low above q levels done (Opened w.copied (element_of (shape_of ctx.stack.frame.layout.scope w.of)) ∷ []) left w.start r.later a keeps w.pending;
+      pending = pending_kept k acts (λ y z i l. rows_renewed k y acts z i l) ctx x n low above q done (Opened w.copied (element_of (shape_of ctx.stack.frame.layout.scope w.of)) ∷ []) left w.start r.later a keeps w.pending;
     })
 rows_renewed (i ∷ k) ctx acts x n low above t p stack c a keeps r =
     let m = met ctx acts x n low (ctx.stack.frame.at + loop_place a.taken) keeps t i r.start stack a r.there.part in
@@ -580,9 +618,9 @@ pub stack_above : (ctx : Setting) (r : StackRegisters) → Standing ctx r → (c
 stack_above ctx r s = stands_above ctx.home.owner ctx.stack.base r.top ctx.stack.frame ctx.stack.callers ctx.stack.bodies s.stands (all_above ctx r s)
 
 -- the words of the FORs and WITHs around lie behind those of the variables
-pending_behind : (ctx : Setting) (q levels : ℕ) (done : List Datum) (next : List Shape) (left : Arguments) (k : List Item) (p c : ℕ) (a : Around) → Pending ctx q levels done next left (RowsOf k) p c a
+pending_behind : (ctx : Setting) (q : Callee) (done : List Datum) (next : List Shape) (left : Arguments) (k : List Item) (p c : ℕ) (a : Around) → Pending ctx q done next left (RowsOf k) p c a
     → ((y : Setting) (t : Mode) (p : ℕ) (stack : List ℕ) (c : ℕ) (a : Around) → Rows y k t p stack c a → own_words y.stack.frame ≤ a.taken) → own_words ctx.stack.frame ≤ a.taken
-pending_behind ctx q levels done next left k p c a w rest =
+pending_behind ctx q done next left k p c a w rest =
     omega (arith, rest w.before _ w.after _ w.later w.outer w.then, ap (λ (o : Around). o.taken) w.around, ap (λ (y : Setting). own_words y.stack.frame) w.is)
 
 pub loops_behind : (k : List Item) (ctx : Setting) (t : Mode) (p : ℕ) (stack : List ℕ) (c : ℕ) (a : Around) → Rows ctx k t p stack c a → own_words ctx.stack.frame ≤ a.taken
@@ -593,16 +631,18 @@ loops_behind (Perform (Turns n kind z step left body) ∷ k) ctx t p stack c a r
 loops_behind (Perform (Holding place) ∷ k) ctx t p stack c a r =
     omega (arith, ap (λ (o : Around). o.taken) r.there.around, loops_behind k r.there.before _ _ _ _ r.there.outer r.there.then, ap (λ (c : Setting). own_words c.stack.frame) r.there.is)
 loops_behind (Perform (End n) ∷ k) ctx t p stack c a r = omega (arith, ap (λ (o : Around). o.taken) r.there.alone)
-loops_behind (Fill (Pass (Called q levels) kind done left) ∷ k) ctx t p stack c a r = pending_behind ctx q levels done _ left k _ _ a r.there.pending (λ y t p stack c a. loops_behind k y t p stack c a)
-loops_behind (Fill (PassPlace (Called q levels) done left) ∷ k) ctx t p stack c a r = pending_behind ctx q levels done _ left k _ _ a r.there.pending (λ y t p stack c a. loops_behind k y t p stack c a)
-loops_behind (Fill (PassAll (Called q levels) done left) ∷ k) ctx t p stack c a r = pending_behind ctx q levels done _ left k _ _ a r.there.pending (λ y t p stack c a. loops_behind k y t p stack c a)
-loops_behind (Fill (PassArray (Called q levels) high done left) ∷ k) ctx t p stack c a r = pending_behind ctx q levels done _ left k _ _ a r.there.pending (λ y t p stack c a. loops_behind k y t p stack c a)
+loops_behind (Fill (Pass (Called q) kind done left) ∷ k) ctx t p stack c a r = pending_behind ctx q done _ left k _ _ a r.there.pending (λ y t p stack c a. loops_behind k y t p stack c a)
+loops_behind (Fill (PassPlace (Called q) done left) ∷ k) ctx t p stack c a r = pending_behind ctx q done _ left k _ _ a r.there.pending (λ y t p stack c a. loops_behind k y t p stack c a)
+loops_behind (Fill (PassAll (Called q) done left) ∷ k) ctx t p stack c a r = pending_behind ctx q done _ left k _ _ a r.there.pending (λ y t p stack c a. loops_behind k y t p stack c a)
+loops_behind (Fill (PassArray (Called q) high done left) ∷ k) ctx t p stack c a r = pending_behind ctx q done _ left k _ _ a r.there.pending (λ y t p stack c a. loops_behind k y t p stack c a)
+loops_behind (Fill (Calling given) ∷ k) ctx t p stack c a r =
+    let w = r.there in omega (arith, loops_behind k w.before _ w.after _ _ w.outer w.then, ap (λ (o : Around). o.taken) w.around, ap (λ (y : Setting). own_words y.stack.frame) w.is)
 loops_behind (i ∷ k) ctx t p stack c a r = loops_behind k ctx _ _ _ _ _ r.there.then
 
 -- the words of copies lie below those of pending calls
-pending_above : (ctx : Setting) (q levels : ℕ) (done : List Datum) (next : List Shape) (left : Arguments) (k : List Item) (p c : ℕ) (a : Around) → Pending ctx q levels done next left (RowsOf k) p c a
+pending_above : (ctx : Setting) (q : Callee) (done : List Datum) (next : List Shape) (left : Arguments) (k : List Item) (p c : ℕ) (a : Around) → Pending ctx q done next left (RowsOf k) p c a
     → ((y : Setting) (t : Mode) (p : ℕ) (stack : List ℕ) (c : ℕ) (a : Around) → Rows y k t p stack c a → y.stack.frame.copied ≤ y.stack.frame.pushed) → ctx.stack.frame.copied ≤ ctx.stack.frame.pushed
-pending_above ctx q levels done next left k p c a w rest =
+pending_above ctx q done next left k p c a w rest =
     omega (arith, rest w.before _ w.after _ w.later w.outer w.then, ap (λ (y : Setting). y.stack.frame.copied) w.is, ap (λ (y : Setting). y.stack.frame.pushed) w.is)
 
 pub copies_below : (k : List Item) (ctx : Setting) (t : Mode) (p : ℕ) (stack : List ℕ) (c : ℕ) (a : Around) → Rows ctx k t p stack c a → ctx.stack.frame.copied ≤ ctx.stack.frame.pushed
@@ -612,17 +652,19 @@ copies_below (Perform (Turns n kind z step left body) ∷ k) ctx t p stack c a r
 copies_below (Perform (Holding place) ∷ k) ctx t p stack c a r =
     omega (arith, copies_below k r.there.before _ _ _ _ r.there.outer r.there.then, ap (λ (y : Setting). y.stack.frame.copied) r.there.is, ap (λ (y : Setting). y.stack.frame.pushed) r.there.is)
 copies_below (Perform (End n) ∷ k) ctx t p stack c a r = omega (arith, r.there.idle)
-copies_below (Fill (Pass (Called q levels) kind done left) ∷ k) ctx t p stack c a r = pending_above ctx q levels done _ left k _ _ a r.there.pending (λ y t p stack c a. copies_below k y t p stack c a)
-copies_below (Fill (PassPlace (Called q levels) done left) ∷ k) ctx t p stack c a r = pending_above ctx q levels done _ left k _ _ a r.there.pending (λ y t p stack c a. copies_below k y t p stack c a)
-copies_below (Fill (PassAll (Called q levels) done left) ∷ k) ctx t p stack c a r = pending_above ctx q levels done _ left k _ _ a r.there.pending (λ y t p stack c a. copies_below k y t p stack c a)
-copies_below (Fill (PassArray (Called q levels) high done left) ∷ k) ctx t p stack c a r = pending_above ctx q levels done _ left k _ _ a r.there.pending (λ y t p stack c a. copies_below k y t p stack c a)
+copies_below (Fill (Pass (Called q) kind done left) ∷ k) ctx t p stack c a r = pending_above ctx q done _ left k _ _ a r.there.pending (λ y t p stack c a. copies_below k y t p stack c a)
+copies_below (Fill (PassPlace (Called q) done left) ∷ k) ctx t p stack c a r = pending_above ctx q done _ left k _ _ a r.there.pending (λ y t p stack c a. copies_below k y t p stack c a)
+copies_below (Fill (PassAll (Called q) done left) ∷ k) ctx t p stack c a r = pending_above ctx q done _ left k _ _ a r.there.pending (λ y t p stack c a. copies_below k y t p stack c a)
+copies_below (Fill (PassArray (Called q) high done left) ∷ k) ctx t p stack c a r = pending_above ctx q done _ left k _ _ a r.there.pending (λ y t p stack c a. copies_below k y t p stack c a)
+copies_below (Fill (Calling given) ∷ k) ctx t p stack c a r =
+    let w = r.there in omega (arith, copies_below k w.before _ w.after _ _ w.outer w.then, ap (λ (y : Setting). y.stack.frame.copied) w.is, ap (λ (y : Setting). y.stack.frame.pushed) w.is)
 copies_below (i ∷ k) ctx t p stack c a r = copies_below k ctx _ _ _ _ _ r.there.then
 
 -- and in the frame
-pub pending_fits : (ctx : Setting) (q levels : ℕ) (done : List Datum) (next : List Shape) (left : Arguments) (k : List Item) (p c : ℕ) (a : Around) → 4 + own_words ctx.stack.frame ≤ ctx.stack.frame.layout.frame
-    → Pending ctx q levels done next left (RowsOf k) p c a → ((y : Setting) (t : Mode) (p : ℕ) (stack : List ℕ) (c : ℕ) (a : Around) → 4 + own_words y.stack.frame ≤ y.stack.frame.layout.frame → Rows y k t p stack c a → loop_place a.taken ≤ y.stack.frame.layout.frame)
+pub pending_fits : (ctx : Setting) (q : Callee) (done : List Datum) (next : List Shape) (left : Arguments) (k : List Item) (p c : ℕ) (a : Around) → 4 + own_words ctx.stack.frame ≤ ctx.stack.frame.layout.frame
+    → Pending ctx q done next left (RowsOf k) p c a → ((y : Setting) (t : Mode) (p : ℕ) (stack : List ℕ) (c : ℕ) (a : Around) → 4 + own_words y.stack.frame ≤ y.stack.frame.layout.frame → Rows y k t p stack c a → loop_place a.taken ≤ y.stack.frame.layout.frame)
     → loop_place a.taken ≤ ctx.stack.frame.layout.frame
-pending_fits ctx q levels done next left k p c a mark w rest =
+pending_fits ctx q done next left k p c a mark w rest =
     let frame : ctx.stack.frame.layout.frame ≡ w.before.stack.frame.layout.frame = ap (λ (y : Setting). y.stack.frame.layout.frame) w.is in
     let words : own_words ctx.stack.frame ≡ own_words w.before.stack.frame = ap (λ (y : Setting). own_words y.stack.frame) w.is in
     omega (arith, rest w.before _ w.after _ w.later w.outer (omega (arith, mark, frame, words)) w.then, ap (λ (o : Around). o.taken) w.around, frame)
@@ -637,10 +679,15 @@ loops_fit (Perform (Turns n kind z step left body) ∷ k) ctx t p stack c a mark
 loops_fit (Perform (Holding place) ∷ k) ctx t p stack c a mark r =
     omega (arith, ap (λ (o : Around). o.taken) r.there.around, r.there.room, ap (λ (c : Setting). c.stack.frame.layout.frame) r.there.is)
 loops_fit (Perform (End n) ∷ k) ctx t p stack c a mark r = omega (arith, ap (λ (o : Around). o.taken) r.there.alone, mark)
-loops_fit (Fill (Pass (Called q levels) kind done left) ∷ k) ctx t p stack c a mark r = pending_fits ctx q levels done _ left k _ _ a mark r.there.pending (λ y t p stack c a. loops_fit k y t p stack c a)
-loops_fit (Fill (PassPlace (Called q levels) done left) ∷ k) ctx t p stack c a mark r = pending_fits ctx q levels done _ left k _ _ a mark r.there.pending (λ y t p stack c a. loops_fit k y t p stack c a)
-loops_fit (Fill (PassAll (Called q levels) done left) ∷ k) ctx t p stack c a mark r = pending_fits ctx q levels done _ left k _ _ a mark r.there.pending (λ y t p stack c a. loops_fit k y t p stack c a)
-loops_fit (Fill (PassArray (Called q levels) high done left) ∷ k) ctx t p stack c a mark r = pending_fits ctx q levels done _ left k _ _ a mark r.there.pending (λ y t p stack c a. loops_fit k y t p stack c a)
+loops_fit (Fill (Pass (Called q) kind done left) ∷ k) ctx t p stack c a mark r = pending_fits ctx q done _ left k _ _ a mark r.there.pending (λ y t p stack c a. loops_fit k y t p stack c a)
+loops_fit (Fill (PassPlace (Called q) done left) ∷ k) ctx t p stack c a mark r = pending_fits ctx q done _ left k _ _ a mark r.there.pending (λ y t p stack c a. loops_fit k y t p stack c a)
+loops_fit (Fill (PassAll (Called q) done left) ∷ k) ctx t p stack c a mark r = pending_fits ctx q done _ left k _ _ a mark r.there.pending (λ y t p stack c a. loops_fit k y t p stack c a)
+loops_fit (Fill (PassArray (Called q) high done left) ∷ k) ctx t p stack c a mark r = pending_fits ctx q done _ left k _ _ a mark r.there.pending (λ y t p stack c a. loops_fit k y t p stack c a)
+loops_fit (Fill (Calling given) ∷ k) ctx t p stack c a mark r =
+    let w = r.there in
+    let frame : ctx.stack.frame.layout.frame ≡ w.before.stack.frame.layout.frame = ap (λ (y : Setting). y.stack.frame.layout.frame) w.is in
+    let words : own_words ctx.stack.frame ≡ own_words w.before.stack.frame = ap (λ (y : Setting). own_words y.stack.frame) w.is in
+    omega (arith, loops_fit k w.before _ w.after _ _ w.outer (omega (arith, mark, frame, words)) w.then, ap (λ (o : Around). o.taken) w.around, frame)
 loops_fit (i ∷ k) ctx t p stack c a mark r = loops_fit k ctx _ _ _ _ _ mark r.there.then
 
 -- activations stay linked as long as the first words of their frames stay
@@ -803,7 +850,7 @@ module _ (ctx : Setting) (s : Source) (m : State) (shared : Shared ctx s m) (i w
     shadow = λ a o. other_word a (λ e. ⊎_elim (λ (l : a < st.base). omega (arith, own_inside.0, e, l)) (λ (g : st.limit ≤ a). omega (arith, own_inside.1, e, g)) o);
     base = λ r b e. refl;
     shape = λ r b e. refl;
-    targets = refl;
+    listed = refl;
     workspaces = extends_self h.workspaces;
     fixed = fixed_kept;
   }
@@ -818,7 +865,7 @@ module _ (ctx : Setting) (s : Source) (m : State) (shared : Shared ctx s m) (i w
         shadow = λ b from under. other_word b (λ e. omega (arith, e, under, below));
         base = λ q e f. refl;
         shape = λ q e f. refl;
-        targets = refl;
+        listed = refl;
         workspaces = extends_self h.workspaces;
       })
       r

@@ -5,10 +5,10 @@ use Rattle.std.proofs.lemmas.{Bool.eqb-true, Option.slice_get_within}
 use Rattle.lil_resolved.specs.{Kinds.is_there, Resolved.Resolved}
 use Rattle.lil_meaning.specs.{Items.{Root, Global, Local, Object, Activation}, Steps.{owner_of, procedure_of}}
 use Rattle.lil_mcode.specs.Table.{Module}
-use Rattle.lil_match.specs.{Homes.{Fixed, Home, lives}, Waits.{Frame, is_of, sees}, Goes.{IsKnown, EachKnown, EachComes, HasLocals, EachLocal, Grows}}
+use Rattle.lil_match.specs.{Homes.{Fixed, Listed, Home, lives}, Waits.{Frame, is_of, sees}, Goes.{IsKnown, EachKnown, EachComes, HasLocals, EachLocal, Grows}}
 
 module _ (library : List Resolved) (loaded : List ℕ) (table : List Module) (activations more : List Activation) (grows : Grows more activations) (h x : Home)
-    (base : (m y : ℕ) → x.base (Global m y) ≡ h.base (Global m y)) (shape : (m y : ℕ) → x.shape (Global m y) ≡ h.shape (Global m y)) (targets : x.targets ≡ h.targets)
+    (base : (m y : ℕ) → x.base (Global m y) ≡ h.base (Global m y)) (shape : (m y : ℕ) → x.shape (Global m y) ≡ h.shape (Global m y)) (listed : x.listed ≡ h.listed)
     (fixed : (a : ℕ) → h.owner a ≡ Fixed → (x.owner a ≡ Fixed) × (x.shadow a ≡ h.shadow a)) where
   pub known_kept : (f : Frame) → IsKnown library loaded table activations h f → IsKnown library loaded table more x f
   known_kept f g =
@@ -30,8 +30,12 @@ module _ (library : List Resolved) (loaded : List ℕ) (table : List Module) (ac
         variables = λ n o k offset kind. let v = g.variables n o k offset kind in (shape f.number n ∙ v.0, base f.number n ∙ v.1);
         strings = λ i less. let s = g.strings i less in let y = fixed (f.own.base + (f.layout.words + i)) s.0 in (y.0, y.1 ∙ s.1);
         inside = g.inside;
-        targets = g.targets ∙ sym targets;
-        own_targets = g.own_targets ∙ sym targets;
+        targets = g.targets ∙ sym (ap (λ (ls : Listed). ls.targets) listed);
+        own_targets = g.own_targets ∙ sym (ap (λ (ls : Listed). ls.targets) listed);
+        signatures = g.signatures ∙ sym (ap (λ (ls : Listed). ls.signatures) listed);
+        outlines = g.outlines ∙ sym (ap (λ (ls : Listed). ls.procedures) listed);
+        here = g.here ∙ sym (ap (λ (ls : Listed). ls.number) listed);
+        number = g.number;
       }
 
   pub each_known : (fs : List Frame) → EachKnown library loaded table activations h fs → EachKnown library loaded table more x fs

@@ -60,6 +60,10 @@ module _ (library : List Resolved) (loaded : List ℕ) (table : List Module) (ac
     inside = omega (arith, k.inside, words, ap length strings);
     targets = ap (λ (y : Layout). y.scope.targets) part ∙ k.targets;
     own_targets = k.own_targets;
+    signatures = ap (λ (y : Layout). y.scope.signatures) part ∙ k.signatures;
+    outlines = ap (λ (y : Layout). y.scope.procedures) part ∙ k.outlines;
+    here = k.here;
+    number = ap (λ (y : Layout). y.number) part ∙ k.number;
   }
 
 -- the roots that are none of their variables don't hang on a layout
@@ -174,7 +178,7 @@ module _ (ctx : Setting) (m : Layout) (alike : IsAlike ctx.stack.frame.layout m)
       shadow = y.touch.shadow;
       base = λ r b. y.touch.base r (sym (beyond_laid f m (ctx.stack.callers ++ ctx.stack.bodies) r) ∙ b);
       shape = λ r b. y.touch.shape r (sym (beyond_laid f m (ctx.stack.callers ++ ctx.stack.bodies) r) ∙ b);
-      targets = y.touch.targets;
+      listed = y.touch.listed;
       workspaces = y.touch.workspaces;
       fixed = y.touch.fixed;
     };

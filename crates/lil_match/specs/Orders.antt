@@ -1,6 +1,6 @@
 -- Where parts stand: behind their start, and within the code.
 use Rattle.std.proofs.Common.{ℕ, Bool, false, ◌+◌, ◌<◌, ◌≤◌, List, [], ◌∷◌, length, Option, arith}
-use Rattle.lil_resolved.specs.Resolved.{Expression, Constant, Taken, One, Two, Short, Apply, With, WithSpan, Invoke, High, Argument, Arguments, NoMore, Also, ByValue, OfPlace, OfAll, OfArray, OfText, OfOpened, Statement, Statements, kind_of}
+use Rattle.lil_resolved.specs.Resolved.{Expression, Constant, Taken, One, Two, Short, Apply, With, WithSpan, Invoke, High, Routine, InvokeValue, Argument, Arguments, NoMore, Also, ByValue, OfPlace, OfAll, OfArray, OfText, OfOpened, Spelled, Statement, Statements, kind_of}
 use Rattle.lil_resolved.specs.Sizes.{argument_words}
 use Rattle.lil_asm.specs.{declared.instr.Instr.{Instr, TheVariants.{Liw, Lag, Dup, Spn, Rst}}, Decoding.decoded_stands}
 use Rattle.lil_table.specs.{Lengths.{instrs_long, place_long, expression_long, statement_long, body_long}, Rows.{Layout, IsAt, InstrsAt, one_code, two_code, test_code, function_code, access_of, address_code, ExpressionAt, ArgumentAt, ArgumentsAt, StatementAt, BodyAt, short_code, second_code}}
@@ -63,6 +63,10 @@ expression_stands l code (Invoke x n k given) p q h =
     let last = instr_order code h.end (Rst 1) q h.restore in
     (omega (arith, expression_long l code (Invoke x n k given) p q h), last.1)
 expression_stands l code (High n x) p q h = instr_order code p _ q h.load
+expression_stands l code (Routine x n) p q h = instr_order code p _ q h.load
+expression_stands l code (InvokeValue e k given) p q h =
+    let last = instr_order code h.end (Rst 1) q h.restore in
+    (omega (arith, expression_long l code (InvokeValue e k given) p q h), last.1)
 
 -- the place where an expression begins lies within the code
 pub expression_within : (l : Layout) (code : List ℕ) (e : Expression) (p q : ℕ) → ExpressionAt l code e p q → p < length code
@@ -89,6 +93,7 @@ argument_within l code calls n (OfArray copied d high) p q h inside =
     omega (arith, place_long l code d p h.found h.here, instrs_long code (address_code (access_of l d)) h.found h.start h.address, instrs_long code (second_code calls (Liw high)) h.start q h.by, inside)
 argument_within l code calls n (OfText cs) p q h inside = instr_within code p (Lag h.offset) h.start h.address
 argument_within l code calls n (OfOpened copied i x) p q h inside = instr_within code p _ h.start h.first
+argument_within l code calls n (Spelled cs count) p q h inside = instr_within code p (Lag h.offset) h.start h.address
 
 pub arguments_within : (l : Layout) (code : List ℕ) (n : ℕ) (given : Arguments) (p q : ℕ) → ArgumentsAt l code n given p q → q < length code → p < length code
 arguments_within l code n NoMore p q h inside = omega (arith, h, inside)

@@ -5,7 +5,7 @@ use Rattle.std.proofs.lemmas.{Bool.{and_parts, and_from, eqb-true, leb-true, Dec
 use Rattle.lil_base.specs.{Words.{in_type, between}, Laws.{in_range, bounds}, SetLaws.set_below}
 use Rattle.lil_base.specs.Sets as sets
 use Rattle.lil_resolved.specs.MemberLaws.{word_of_set}
-use Rattle.lil_resolved.specs.Kinds.{Pointee, Objects, Workspaces, Kind, OfWhole, OfTruth, OfCharacter, OfEnumeration, OfSet, OfPointer, OfRange, base_of, is_base, is_ordinal, is_plain, same_pointee, same_pointer, takes_value, compared_as, larger, least, greatest, Scalar, Number, Truth, Character, SetOf, ToObject, ToWorkspace, Nil, within, scalar_of, ordinal_of, value_with}
+use Rattle.lil_resolved.specs.Kinds.{Pointee, Objects, Workspaces, Kind, OfWhole, OfTruth, OfCharacter, OfEnumeration, OfSet, OfPointer, OfProcedure, OfRange, base_of, is_base, is_ordinal, is_plain, same_pointee, same_pointer, same_procedures, takes_value, compared_as, larger, least, greatest, Scalar, Number, Truth, Character, SetOf, ToObject, ToWorkspace, ToProcedure, Nil, within, scalar_of, ordinal_of, value_with}
 
 -- a number is one of the kind's
 abbrev pub has : Kind → ℤ → Bool
@@ -28,6 +28,7 @@ value_where OfCharacter z = refl
 value_where (OfEnumeration n) z = refl
 value_where OfSet z = refl
 value_where (OfPointer n) z = refl
+value_where (OfProcedure n) z = refl
 value_where (OfRange base low high) z =
     by (between low z high) (value_where base z)
     ∙ ap (λ (b : Bool). cond b (Some (scalar_of base z)) None) (sym (has_range base low high z))
@@ -57,6 +58,9 @@ number_is OfSet (negsuc n) h = cc
 number_is (OfPointer n) (pos zero) h = refl
 number_is (OfPointer n) (pos (suc m)) h = let b = bounds (pos 0) (pos (suc m)) (pos 0) h in absurd (omega (arith, ints, b.1))
 number_is (OfPointer n) (negsuc m) h = cc
+number_is (OfProcedure n) (pos zero) h = refl
+number_is (OfProcedure n) (pos (suc m)) h = let b = bounds (pos 0) (pos (suc m)) (pos 0) h in absurd (omega (arith, ints, b.1))
+number_is (OfProcedure n) (negsuc m) h = cc
 number_is (OfRange base low high) z h = number_is base z (and_parts (between low z high) (has base z) (sym (has_range base low high z) ∙ h)).1
 
 -- and is one of the kind
@@ -68,6 +72,7 @@ value_fits OfCharacter (negsuc n) h = cc
 value_fits (OfEnumeration n) z h = h
 value_fits OfSet z h = refl
 value_fits (OfPointer n) z h = refl
+value_fits (OfProcedure n) z h = refl
 value_fits (OfRange base low high) z h =
     let p = and_parts (between low z high) (has base z) (sym (has_range base low high z) ∙ h) in
     and_from (within base (scalar_of base z)) (between low (ordinal_of (scalar_of base z)) high)
@@ -85,6 +90,8 @@ fits_has OfSet (SetOf s) h = in_range (pos 0) (pos (sets.set_word s)) (pos 65535
 fits_has (OfPointer to) (ToObject o) h = refl
 fits_has (OfPointer to) (ToWorkspace w) h = refl
 fits_has (OfPointer to) Nil h = refl
+fits_has (OfProcedure n) (ToProcedure m p) h = refl
+fits_has (OfProcedure n) Nil h = refl
 fits_has (OfRange base low high) v h =
     let p = and_parts (within base v) (between low (ordinal_of v) high) h in
     has_range base low high (ordinal_of v) ∙ and_from (between low (ordinal_of v) high) (has base (ordinal_of v)) p.1 (fits_has base v p.0)
@@ -94,6 +101,7 @@ fits_has k v h = cc
 pub ordinal_base : (k : Kind) → is_ordinal k ≡ true → is_base k ≡ true
 ordinal_base OfSet h = cc
 ordinal_base (OfPointer n) h = cc
+ordinal_base (OfProcedure n) h = cc
 ordinal_base (OfWhole t) h = refl
 ordinal_base OfTruth h = refl
 ordinal_base OfCharacter h = refl
@@ -103,6 +111,7 @@ ordinal_base (OfRange part low high) h = h
 -- and are no references
 pub ordinal_plain : (k : Kind) → is_ordinal k ≡ true → is_plain k ≡ true
 ordinal_plain (OfPointer n) h = cc
+ordinal_plain (OfProcedure n) h = cc
 ordinal_plain (OfRange part low high) h = cc
 ordinal_plain _ h = refl
 
@@ -116,6 +125,11 @@ pub pointers_same : (k j : Kind) → same_pointer k j ≡ true → (to : Pointee
 pointers_same (OfPointer to) (OfPointer from) e = (from, ap OfPointer (same_is to from e), refl)
 pointers_same k j e = cc
 
+-- two kinds of procedures of one type
+pub procedures_same : (k j : Kind) → same_procedures k j ≡ true → (n : ℕ) × (k ≡ OfProcedure n) × (j ≡ OfProcedure n)
+procedures_same (OfProcedure m) (OfProcedure n) e = (n, ap OfProcedure (eqb-true m n e), refl)
+procedures_same k j e = cc
+
 -- its numbers are numbers of the type as which its words are compared
 pub has_type : (j : Kind) (z : ℤ) → is_base j ≡ true → has j z ≡ true → in_type (compared_as j) z ≡ true
 has_type (OfWhole t) z base h = h
@@ -124,6 +138,7 @@ has_type OfCharacter z base h = let b = bounds (pos 0) z (pos 255) h in in_range
 has_type (OfEnumeration n) z base h = grind (arith, ints, nat_tests)
 has_type OfSet z base h = h
 has_type (OfPointer n) z base h = let b = bounds (pos 0) z (pos 0) h in in_range (pos 0) z (pos 65535) b.0 (omega (arith, ints, b.1))
+has_type (OfProcedure n) z base h = let b = bounds (pos 0) z (pos 0) h in in_range (pos 0) z (pos 65535) b.0 (omega (arith, ints, b.1))
 has_type (OfRange part low high) z base h = cc
 
 -- ---- a value of one kind where another is wanted

@@ -36,9 +36,9 @@ rests_kept ctx more x y grows touch same p r rests = record {
     base_is = g.base_is;
     limit_is = g.limit_is;
     bodies_are = g.bodies_are;
-    known = known_kept ctx.library ctx.loaded ctx.table ctx.activations more grows ctx.home x (λ m z. touch.base (Global m z) refl refl) (λ m z. touch.shape (Global m z) refl refl) touch.targets touch.fixed d.frame g.known;
-    callers = each_known ctx.library ctx.loaded ctx.table ctx.activations more grows ctx.home x (λ m z. touch.base (Global m z) refl refl) (λ m z. touch.shape (Global m z) refl refl) touch.targets touch.fixed d.callers g.callers;
-    comes = each_comes ctx.library ctx.loaded ctx.table ctx.activations more grows ctx.home x (λ m z. touch.base (Global m z) refl refl) (λ m z. touch.shape (Global m z) refl refl) touch.targets touch.fixed d.base d.bodies g.comes;
+    known = known_kept ctx.library ctx.loaded ctx.table ctx.activations more grows ctx.home x (λ m z. touch.base (Global m z) refl refl) (λ m z. touch.shape (Global m z) refl refl) touch.listed touch.fixed d.frame g.known;
+    callers = each_known ctx.library ctx.loaded ctx.table ctx.activations more grows ctx.home x (λ m z. touch.base (Global m z) refl refl) (λ m z. touch.shape (Global m z) refl refl) touch.listed touch.fixed d.callers g.callers;
+    comes = each_comes ctx.library ctx.loaded ctx.table ctx.activations more grows ctx.home x (λ m z. touch.base (Global m z) refl refl) (λ m z. touch.shape (Global m z) refl refl) touch.listed touch.fixed d.base d.bodies g.comes;
     stands = stands_kept ctx.home.owner x.owner d.base r.stack.top d.frame d.callers (λ a from below. touch.owner a (far a from (omega (arith, below, g.low)))) g.stands;
     links = chained_kept ctx.home.shadow x.shadow ctx.activations more grows ctx.home.owner d.base r.stack.top d.frame d.callers g.stands (λ a from below. touch.shadow a (far a from (omega (arith, below, words.top_is, words.mark, g.low)))) g.links;
     room = λ a from below. touch.owner a (far a (omega (arith, from, high.0, words.top_is)) below) ∙ g.room a from below;
@@ -57,7 +57,7 @@ rests_kept ctx more x y grows touch same p r rests = record {
         shadow = λ a from below. touch.shadow a (far a (omega (arith, from)) (omega (arith, below, loops, words.top_is, g.low)));
         base = base;
         shape = shape;
-        targets = touch.targets;
+        listed = touch.listed;
         workspaces = touch.workspaces;
       })
       rests.rows;

@@ -5,7 +5,7 @@ use Rattle.std.specs.Prelude.{slice_get}
 use Rattle.std.proofs.lemmas.{Option.same_Some, Bool.lt-ltb}
 use Rattle.lil_base.specs.declared.fault.{TrapKind.TrapKind, LimitKind.LimitKind}
 use Rattle.lil_resolved.specs.{Kinds.{Shape, is_there}, Resolved.{Designator, Arguments, Expression, kind_of}, Sizes.{depth, place_depth}}
-use Rattle.lil_meaning.specs.{Items.{Global, Place, Datum, loaded_at, Called, Pass, PassPlace, PassAll, PassArray, Passing, Turns, Holding, End, Item, Perform, Activation, Going, Source, Cells, Root, Local, Object, Hole, Evaluate, PlaceOf, Fill}, World.{all_closed, World}, Steps.{current, held_in, owner_of, procedure_of, procedure_name, trap_at, trapped, next}}
+use Rattle.lil_meaning.specs.{Items.{Global, Place, Datum, loaded_at, Called, Pass, PassPlace, PassAll, PassArray, Calling, Callee, Passing, Spelling, Turns, Holding, End, Item, Perform, Activation, Going, Source, Cells, Root, Local, Object, Hole, Evaluate, PlaceOf, Fill}, World.{all_closed, World}, Steps.{current, held_in, owner_of, procedure_of, procedure_name, trap_at, trapped, next}}
 use Rattle.lil_mcode.specs.{declared.machine.Event.{Event, TheVariants.{Trap, Went, Limit}}, Table.{Kept, State, Module, module_at, mstep, act, fetched, performed, going, push_row}}
 use Rattle.lil_table.specs.Rows.{holding, loop_place, IsAt, PlaceAt, ExpressionAt}
 use Rattle.lil_match.specs.{Goes.{IsNamed, Shared, IsTrapped, IsProgram, GoesOn, Lands, IsStill, beyond, Touches, Succeeds, Short, IsFull, Grows, Goes}, Running.{running, react, Run, mrun, advanced}, Homes.{address, shape_there, Home, extends_self, lives, Mem}, Kept.{sees_laid, sees_pushed, loops_behind}}
@@ -21,23 +21,24 @@ closed ctx [] t p stack c a r = absurd r
 closed ctx (Perform (Turns x kind z step left body) ∷ k) t p stack c a r = ⊎_elim (λ b. closed ctx k _ _ _ _ _ b.then) (λ n. closed ctx k _ _ _ _ _ n.then) r.there
 closed ctx (Perform (Holding place) ∷ k) t p stack c a r = closed r.there.before k _ _ _ _ _ r.there.then ∙ sym (ap (λ (c : Setting). c.stack.frame.activation) r.there.is)
 closed ctx (Perform (End n) ∷ k) t p stack c a r = r.there.activation
-closed ctx (Fill (Pass (Called q levels) kind done left) ∷ k) t p stack c a r =
+closed ctx (Fill (Pass (Called q) kind done left) ∷ k) t p stack c a r =
     let w = r.there.pending in
     closed w.before k _ w.after _ w.later w.outer w.then ∙ sym (ap (λ (c : Setting). c.stack.frame.activation) w.is)
-closed ctx (Fill (PassPlace (Called q levels) done left) ∷ k) t p stack c a r =
+closed ctx (Fill (PassPlace (Called q) done left) ∷ k) t p stack c a r =
     let w = r.there.pending in
     closed w.before k _ w.after _ w.later w.outer w.then ∙ sym (ap (λ (c : Setting). c.stack.frame.activation) w.is)
-closed ctx (Fill (PassAll (Called q levels) done left) ∷ k) t p stack c a r =
+closed ctx (Fill (PassAll (Called q) done left) ∷ k) t p stack c a r =
     let w = r.there.pending in
     closed w.before k _ w.after _ w.later w.outer w.then ∙ sym (ap (λ (c : Setting). c.stack.frame.activation) w.is)
-closed ctx (Fill (PassArray (Called q levels) high done left) ∷ k) t p stack c a r =
+closed ctx (Fill (PassArray (Called q) high done left) ∷ k) t p stack c a r =
     let w = r.there.pending in
     closed w.before k _ w.after _ w.later w.outer w.then ∙ sym (ap (λ (c : Setting). c.stack.frame.activation) w.is)
+closed ctx (Fill (Calling given) ∷ k) t p stack c a r = let w = r.there in closed w.before k _ w.after _ _ w.outer w.then ∙ sym (ap (λ (c : Setting). c.stack.frame.activation) w.is)
 closed ctx (i ∷ k) t p stack c a r = closed ctx k _ _ _ _ _ r.there.then
 
 -- so do those of a call's arguments
-pub pending_closed : (ctx : Setting) (k : List Item) (q levels : ℕ) (done : List Datum) (next : List Shape) (left : Arguments) (p c : ℕ) (a : Around) → Pending ctx q levels done next left (RowsOf k) p c a → current k ≡ ctx.stack.frame.activation
-pending_closed ctx k q levels done next left p c a w = closed w.before k _ w.after _ w.later w.outer w.then ∙ sym (ap (λ (c : Setting). c.stack.frame.activation) w.is)
+pub pending_closed : (ctx : Setting) (k : List Item) (q : Callee) (done : List Datum) (next : List Shape) (left : Arguments) (p c : ℕ) (a : Around) → Pending ctx q done next left (RowsOf k) p c a → current k ≡ ctx.stack.frame.activation
+pending_closed ctx k q done next left p c a w = closed w.before k _ w.after _ w.later w.outer w.then ∙ sym (ap (λ (c : Setting). c.stack.frame.activation) w.is)
 
 -- the place that a WITH around holds, whose address stands in a word of the frame
 pub record Held (ctx : Setting) (place : Place) (shape : Shape) (word : ℕ) : Type 0 where
@@ -79,11 +80,11 @@ held_pushed ctx before place shape n word is h =
       low = h.low;
     })
 
-held_pending : (ctx : Setting) (k : List Item) (q levels : ℕ) (done : List Datum) (next : List Shape) (left : Arguments) (p c : ℕ) (a : Around) → Pending ctx q levels done next left (RowsOf k) p c a → (w word : ℕ) (shape : Shape)
+held_pending : (ctx : Setting) (k : List Item) (q : Callee) (done : List Datum) (next : List Shape) (left : Arguments) (p c : ℕ) (a : Around) → Pending ctx q done next left (RowsOf k) p c a → (w word : ℕ) (shape : Shape)
     → slice_get ctx.stack.frame.layout.held w ≡ Some word → slice_get ctx.stack.frame.layout.scope.held w ≡ Some shape
     → ((y : Setting) (t : Mode) (p : ℕ) (stack : List ℕ) (c : ℕ) (a : Around) → Rows y k t p stack c a → slice_get y.stack.frame.layout.held w ≡ Some word → slice_get y.stack.frame.layout.scope.held w ≡ Some shape → HeldHere y (held_in k w) shape word)
     → HeldHere ctx (held_in k w) shape word
-held_pending ctx k q levels done next left p c a r w word shape at typed rest =
+held_pending ctx k q done next left p c a r w word shape at typed rest =
     let h = rest r.before _ r.after _ r.later r.outer r.then (sym (ap (λ (y : Setting). slice_get y.stack.frame.layout.held w) r.is) ∙ at) (sym (ap (λ (y : Setting). slice_get y.stack.frame.layout.scope.held w) r.is) ∙ typed) in
     record { place = h.place; found = h.found; held = held_pushed ctx r.before h.place shape (saved_words r.resumed + (4 + all_words r.shapes)) word r.is h.held }
 
@@ -132,14 +133,18 @@ held_here ctx (Perform (Holding place) ∷ k) t p stack c a r w word shape at ty
         let h = inner v (sym (ap (λ (l : List ℕ). slice_get l (suc v)) held_is) ∙ at) (sym (ap (λ (l : List Shape). slice_get l (suc v)) scope_is) ∙ typed) in
         record { place = h.place; found = h.found; held = held_inside ctx y.before h.place shape y.shape (loop_place y.outer.taken) word y.is h.held }
 held_here ctx (Perform (End n) ∷ k) t p stack c a r w word shape at typed = absurd (none_in ctx.stack.frame.layout.held w word r.there.free at)
-held_here ctx (Fill (Pass (Called q levels) kind done left) ∷ k) t p stack c a r w word shape at typed =
-    held_pending ctx k q levels done _ left _ _ a r.there.pending w word shape at typed (λ y t p stack c a rows at typed. held_here y k t p stack c a rows w word shape at typed)
-held_here ctx (Fill (PassPlace (Called q levels) done left) ∷ k) t p stack c a r w word shape at typed =
-    held_pending ctx k q levels done _ left _ _ a r.there.pending w word shape at typed (λ y t p stack c a rows at typed. held_here y k t p stack c a rows w word shape at typed)
-held_here ctx (Fill (PassAll (Called q levels) done left) ∷ k) t p stack c a r w word shape at typed =
-    held_pending ctx k q levels done _ left _ _ a r.there.pending w word shape at typed (λ y t p stack c a rows at typed. held_here y k t p stack c a rows w word shape at typed)
-held_here ctx (Fill (PassArray (Called q levels) high done left) ∷ k) t p stack c a r w word shape at typed =
-    held_pending ctx k q levels done _ left _ _ a r.there.pending w word shape at typed (λ y t p stack c a rows at typed. held_here y k t p stack c a rows w word shape at typed)
+held_here ctx (Fill (Pass (Called q) kind done left) ∷ k) t p stack c a r w word shape at typed =
+    held_pending ctx k q done _ left _ _ a r.there.pending w word shape at typed (λ y t p stack c a rows at typed. held_here y k t p stack c a rows w word shape at typed)
+held_here ctx (Fill (PassPlace (Called q) done left) ∷ k) t p stack c a r w word shape at typed =
+    held_pending ctx k q done _ left _ _ a r.there.pending w word shape at typed (λ y t p stack c a rows at typed. held_here y k t p stack c a rows w word shape at typed)
+held_here ctx (Fill (PassAll (Called q) done left) ∷ k) t p stack c a r w word shape at typed =
+    held_pending ctx k q done _ left _ _ a r.there.pending w word shape at typed (λ y t p stack c a rows at typed. held_here y k t p stack c a rows w word shape at typed)
+held_here ctx (Fill (PassArray (Called q) high done left) ∷ k) t p stack c a r w word shape at typed =
+    held_pending ctx k q done _ left _ _ a r.there.pending w word shape at typed (λ y t p stack c a rows at typed. held_here y k t p stack c a rows w word shape at typed)
+held_here ctx (Fill (Calling given) ∷ k) t p stack c a r w word shape at typed =
+    let v = r.there in
+    let h = held_here v.before k _ v.after _ _ v.outer v.then w word shape (sym (ap (λ (y : Setting). slice_get y.stack.frame.layout.held w) v.is) ∙ at) (sym (ap (λ (y : Setting). slice_get y.stack.frame.layout.scope.held w) v.is) ∙ typed) in
+    record { place = h.place; found = h.found; held = held_pushed ctx v.before h.place shape (saved_words v.resumed) word v.is h.held }
 held_here ctx (i ∷ k) t p stack c a r w word shape at typed = held_here ctx k _ _ _ _ _ r.there.then w word shape at typed
 
 -- an instruction of the running frame's code is one of its module's
@@ -201,7 +206,7 @@ succeeds_self y acts = record { base = refl; limit = omega arith; frames = λ a 
 
 -- a home that stays
 pub untouched : (h : Home) (fs : List Frame) (low high : ℕ) → Touches h h fs low high
-untouched h fs low high = record { owner = λ a o. refl; shadow = λ a o. refl; base = λ r b e. refl; shape = λ r b e. refl; targets = refl; workspaces = extends_self h.workspaces; fixed = λ a e. (e, refl) }
+untouched h fs low high = record { owner = λ a o. refl; shadow = λ a o. refl; base = λ r b e. refl; shape = λ r b e. refl; listed = refl; workspaces = extends_self h.workspaces; fixed = λ a e. (e, refl) }
 
 -- what lives stays
 live_on : (h g : Home) (fs : List Frame) (low high : ℕ) → Touches h g fs low high → (r : Root) → beyond fs r ≡ true → lives h r ≡ true → lives g r ≡ true
@@ -215,7 +220,7 @@ touched h g i fs low high first second = record {
   shadow = λ a o. second.shadow a o ∙ first.shadow a o;
   base = λ r b e. second.base r b (live_on h g fs low high first r b e) ∙ first.base r b e;
   shape = λ r b e. second.shape r b (live_on h g fs low high first r b e) ∙ first.shape r b e;
-  targets = second.targets ∙ first.targets;
+  listed = second.listed ∙ first.listed;
   workspaces = λ w less. let one = first.workspaces w less in let two = second.workspaces w one.0 in (two.0, two.1 ∙ one.1);
   fixed = λ a e. let one = first.fixed a e in let two = second.fixed a one.0 in (two.0, two.1 ∙ one.1);
 }
@@ -245,7 +250,8 @@ module _ (ctx : Setting) where
 
   pub rows_ahead : (k : List Item) (p : ℕ) (stack : List ℕ) (c : ℕ) (a : Around) → Rows ctx k Quiet p stack c a → Ahead ctx k Quiet p stack c a
   rows_ahead [] p stack c a r = absurd r
-  rows_ahead (Perform (Passing (Called q levels) done left) ∷ k) p stack c a r = absurd r.there.part
+  rows_ahead (Perform (Passing (Called q) done left) ∷ k) p stack c a r = absurd r.there.part
+  rows_ahead (Perform (Spelling (Called q) cs todo done left) ∷ k) p stack c a r = absurd r.there.part
   rows_ahead (i ∷ k) p stack c a r = r
 
   -- other cells, in another store
@@ -452,7 +458,7 @@ module _ (ctx : Setting) where
           shadow = g.touch.shadow;
           base = λ r away e. g.touch.base r (beyond_pushed st.frame (w + st.frame.pushed) (st.callers ++ st.bodies) r ∙ away) e;
           shape = λ r away e. g.touch.shape r (beyond_pushed st.frame (w + st.frame.pushed) (st.callers ++ st.bodies) r ∙ away) e;
-          targets = g.touch.targets;
+          listed = g.touch.listed;
           workspaces = g.touch.workspaces;
           fixed = g.touch.fixed;
         };

@@ -1,18 +1,18 @@
 -- What items need from the code: where they stand, and where the items behind them go on. This speaks of homes and of the expression
 -- stack, and never of the store or of the cells.
-use Rattle.std.proofs.Common.{◌≡◌, ℕ, zero, suc, ◌+◌, ◌-◌, ◌%◌, ◌<◌, ◌≤◌, ◌⊎◌, true, false, Some, None, List, [], ◌∷◌, ◌++◌, length, map, get_or, reverse, Bool, refl}
+use Rattle.std.proofs.Common.{◌≡◌, ℕ, zero, suc, ◌+◌, ◌-◌, ◌%◌, ◌<◌, ◌≤◌, ◌⊎◌, min, true, false, Some, None, List, [], ◌∷◌, ◌++◌, length, map, get_or, reverse, Bool, refl}
 use Rattle.std.specs.Prelude.{ℤ, ◌+ℤ◌, Option, ◌==◌, slice_get}
 use Rattle.std.specs.List.{list_any}
 use Rattle.lil_base.specs.{Words.{between, word_of}, declared.operator.{TwoOp.TwoOp}, Requests.request_number}
-use Rattle.lil_resolved.specs.Kinds.{result_of, result_here, Workspaces, Kind, OfTruth, OfCharacter, OfSet, OfPointer, base_of, is_plain, takes_value, stores_value, least, greatest, numbers, Scalar, within, scalar_word, Shape, Word, Row, Address, Opened, words, is_there, part_at, offset, element_of, all_words, locals_at, Scope, MayCall, parameters_of, parameters_at, procedure_by}
-use Rattle.lil_resolved.specs.{Resolved.{Named, Designator, Variable, Handed, Along, Held, Field, Element, Follow, Expression, Constant, Taken, One, Two, Short, Apply, With, WithSpan, Invoke, High, Argument, Arguments, NoMore, Also, ByValue, OfPlace, OfAll, OfArray, OfText, OfOpened, Statement, Assign, Copy, Text, Change, Member, New, Allocate, Request, Inside, If, Case, While, Repeat, Loop, Exit, Halt, Return, Answer, Call, For, Statements, Empty, Then, Resolved, kind_of, is_relation, result_kind, function_kind, shape_of}, Sizes.{place_depth, depth}}
-use Rattle.lil_resolved.specs.Sound.{request_parameters, parameters_given, AreServed}
-use Rattle.lil_meaning.specs.Items.{Root, Local, Place, Under, alone, Datum, Scalars, Places, Wholes, Opens, Texts, Hole, Get, IndexBy, IndexAt, AlongAt, Pointed, SetTo, StoreAt, CopyTo, CopyFrom, TextTo, NewAt, AllocateBy, AllocateAt, ChangeBy, ChangeAt, OneOf, LeftOf, RightOf, ShortOf, ApplyTo, WithMember, MemberOf, WithMembers, MembersFrom, MembersTo, MemberBy, MemberAt, Requested, Called, Pass, PassPlace, PassAll, PassArray, Returning, Choose, Turn, Again, Pick, Hold, StartOf, LimitOf, Task, Do, Passing, Until, Looping, Turns, Holding, End, Item, Value, Evaluate, PlaceOf, Fill, Perform, Activation, Parked, loaded_at, Part as PartOf}
+use Rattle.lil_resolved.specs.Kinds.{result_of, result_here, Workspaces, Kind, OfTruth, OfCharacter, OfSet, OfPointer, base_of, is_plain, takes_value, stores_value, least, greatest, numbers, Scalar, within, scalar_word, procedure_word, Shape, Word, Row, Address, Opened, words, is_there, part_at, offset, element_of, all_words, locals_at, Scope, MayCall, parameters_of, parameters_at, procedure_by}
+use Rattle.lil_resolved.specs.{Resolved.{Named, Designator, Variable, Handed, Along, Held, Field, Element, Follow, Expression, Constant, Taken, One, Two, Short, Apply, With, WithSpan, Invoke, High, Routine, InvokeValue, Argument, Arguments, NoMore, Also, ByValue, OfPlace, OfAll, OfArray, OfText, OfOpened, Spelled, Statement, Assign, Copy, Text, Change, Member, New, Allocate, Request, Inside, If, Case, While, Repeat, Loop, Exit, Halt, Return, Answer, Call, CallValue, For, Statements, Empty, Then, Resolved, kind_of, is_relation, result_kind, function_kind, shape_of}, Sizes.{place_depth, depth}}
+use Rattle.lil_resolved.specs.Sound.{is_text, request_parameters, parameters_given, AreServed}
+use Rattle.lil_meaning.specs.Items.{Root, Local, Place, Under, alone, Datum, Scalars, Places, Wholes, Opens, Texts, Hole, Get, IndexBy, IndexAt, AlongAt, Pointed, SetTo, StoreAt, CopyTo, CopyFrom, TextTo, NewAt, AllocateBy, AllocateAt, ChangeBy, ChangeAt, OneOf, LeftOf, RightOf, ShortOf, ApplyTo, WithMember, MemberOf, WithMembers, MembersFrom, MembersTo, MemberBy, MemberAt, Callee, ByNumber, OfValue, callee_number, callee_levels, callee_owner, Requested, Called, Pass, PassPlace, PassAll, PassArray, Calling, Returning, Choose, Turn, Again, Pick, Hold, StartOf, LimitOf, Task, Do, Passing, Spelling, Until, Looping, Turns, Holding, End, Item, Value, Evaluate, PlaceOf, Fill, Perform, Activation, Parked, loaded_at, Part as PartOf}
 use Rattle.lil_meaning.specs.{Steps.{turns}, Need.{frame_of as words_of}}
-use Rattle.lil_asm.specs.{declared.instr.Instr.TheVariants.{Liw, Psh, Psm, Cll, Ent, Rtn, Rst, Jmp, Svc}, Requests.request_words}
+use Rattle.lil_asm.specs.{declared.instr.Instr.{Instr, TheVariants.{Liw, Psh, Psm, Cll, Clf, Ent, Rtn, Rst, Jmp, Svc}}, Requests.request_words}
 use Rattle.lil_mcode.specs.Table.{Module, Kept, body_entry}
 use Rattle.lil_base.specs.declared.request.Request as request
-use Rattle.lil_table.specs.Rows.{Layout, leave_code, copies_code, holding, framed, exactly, HasText, text_words, arguments_words, IsAt, InstrsAt, second_code, test_code, Access, InData, InFrame, OnTop, access_of, address_code, readied, PlaceAt, ExpressionAt, ArgumentsAt, GivenAt, given_words, StatementAt, BodyAt, TurnsRow, RoundRow, loop_place, Behind as Past}
+use Rattle.lil_table.specs.Rows.{Layout, ValueCallRow, ZerosRow, leave_code, copies_code, holding, framed, exactly, HasText, text_words, arguments_words, IsAt, InstrsAt, second_code, test_code, Access, InData, InFrame, OnTop, access_of, address_code, readied, PlaceAt, ExpressionAt, ArgumentsAt, GivenAt, given_words, StatementAt, BodyAt, TurnsRow, RoundRow, loop_place, Behind as Past}
 use Rattle.lil_match.specs.Homes.{word_for, Refers, IsWord, Home, address, shape_there}
 
 -- whether a parameter and a datum are open arrays
@@ -222,6 +222,16 @@ pub record AfterJumps (code : List ℕ) (row : Reach) (t : Mode) (p : ℕ) (stac
 abbrev pub IsLink : (display : List ℕ) → ℕ → ℕ → Type 0
 IsLink display zero w = Unit {0}
 IsLink display (suc i) w = slice_get display i ≡ Some w
+
+-- ---- what is called
+-- the fourth word of the mark of one that is a value: the value
+abbrev pub HasValue : Callee → ℕ → Type 0
+HasValue (ByNumber p n) w = Unit {0}
+HasValue (OfValue m p) w = (w ≡ procedure_word m p) × (p < 256)
+
+abbrev pub call_code : Callee → ℕ → Instr
+call_code (ByNumber p n) w = Cll p w
+call_code (OfValue m p) w = Clf w
 
 -- ---- with what the one who calls goes on
 -- nothing, or the value of a function, of a kind, and below it the words that were saved before the call
@@ -766,9 +776,9 @@ module _ (ctx : Setting) where
   AllGiven (t ∷ ts) (d ∷ ds) at = GivenWords t d at × AllGiven ts ds (at + words t)
   AllGiven ts ds at = ⊥
 
-  -- Procedure x, declared n levels out, is called: above the frame stand its mark and what is done of its arguments. Those that are left stand
-  -- behind what is at hand, in no LOOP, and then comes the call.
-  pub record Pending (x n : ℕ) (done : List Datum) (next : List Shape) (left : Arguments) (rest : Setting → Reach) (p : ℕ) (c : ℕ) (a : Around) : Type 0 where
+  -- What is called has its mark and what is done of its arguments above the frame. Those that are left stand behind what is at hand, in no LOOP, and
+  -- then comes the call.
+  pub record Pending (q : Callee) (done : List Datum) (next : List Shape) (left : Arguments) (rest : Setting → Reach) (p : ℕ) (c : ℕ) (a : Around) : Type 0 where
     pub before : Setting
     pub shapes : List Shape
     pub resumed : Resumed
@@ -779,29 +789,31 @@ module _ (ctx : Setting) where
     -- each copy of what is done is owed
     pub later : ℕ
     pub count : c ≡ length (copies_code 4 shapes) + later
-    pub may : MayCall l.scope x n
-    pub returns : result_of (procedure_by l.scope.procedures x) ≡ result_in resumed
-    pub takes : parameters_of (procedure_by l.scope.procedures x) ≡ shapes ++ (next ++ parameters_given l.scope left)
-    pub room : saved_words resumed + (4 + (all_words shapes + (all_words next + given_words l.scope left))) ≤ words_of (loaded_at ctx.library ctx.loaded active.number) x + 17
-    pub link : IsLink active.display n (h.shadow (top_of before.stack.frame + saved_words resumed))
+    pub may : MayCall l.scope (callee_number q) (callee_levels q)
+    pub here : callee_owner active.number q ≡ active.number
+    pub returns : result_of (procedure_by l.scope.procedures (callee_number q)) ≡ result_in resumed
+    pub takes : parameters_of (procedure_by l.scope.procedures (callee_number q)) ≡ shapes ++ (next ++ parameters_given l.scope left)
+    pub room : saved_words resumed + (4 + (all_words shapes + (all_words next + given_words l.scope left))) ≤ words_of (loaded_at ctx.library ctx.loaded active.number) (callee_number q) + 17
+    pub link : IsLink active.display (callee_levels q) (h.shadow (top_of before.stack.frame + saved_words resumed))
+    pub value : HasValue q (h.shadow (top_of before.stack.frame + saved_words resumed + 3))
     pub given : AllGiven shapes done (top_of before.stack.frame + saved_words resumed + 4)
     pub middle : ℕ
     pub arguments : GivenAt l piece left p middle
     pub end : ℕ
-    pub call : IsAt piece middle (Cll x (framed (all_words shapes + (all_words next + given_words l.scope left)))) end
+    pub call : IsAt piece middle (call_code q (framed (all_words shapes + (all_words next + given_words l.scope left)))) end
     pub after : ℕ
     pub restore : RestoresAt piece resumed end after
     pub within : after < length piece
     pub then : rest before (resumed_mode resumed) after (resumed_stack resumed) later outer
 
   -- the next argument is at hand, or the call
-  pub record PendingWaits (x n : ℕ) (done : List Datum) (left : Arguments) (rest : Setting → Reach) (t : Mode) (p : ℕ) (stack : List ℕ) (c : ℕ) (a : Around) : Type 0 where
+  pub record PendingWaits (q : Callee) (done : List Datum) (left : Arguments) (rest : Setting → Reach) (t : Mode) (p : ℕ) (stack : List ℕ) (c : ℕ) (a : Around) : Type 0 where
     pub quiet : t ≡ Quiet
     pub empty : stack ≡ []
-    pub pending : Pending x n done [] left rest p c a
+    pub pending : Pending q done [] left rest p c a
 
   -- the value of the next argument is to come, which is tested and goes to the frame to come
-  pub record ValueWaits (x n : ℕ) (k : Kind) (done : List Datum) (left : Arguments) (rest : Setting → Reach) (t : Mode) (p : ℕ) (stack : List ℕ) (c : ℕ) (a : Around) : Type 0 where
+  pub record ValueWaits (q : Callee) (k : Kind) (done : List Datum) (left : Arguments) (rest : Setting → Reach) (t : Mode) (p : ℕ) (stack : List ℕ) (c : ℕ) (a : Around) : Type 0 where
     pub from : Kind
     pub mode : t ≡ ValueOf from
     pub empty : stack ≡ []
@@ -810,10 +822,10 @@ module _ (ctx : Setting) where
     pub test : InstrsAt piece (test_code k from) p tested
     pub start : ℕ
     pub push : IsAt piece tested Psh start
-    pub pending : Pending x n done (Word k ∷ []) left rest start c a
+    pub pending : Pending q done (Word k ∷ []) left rest start c a
 
   -- its place is to come, whose address does
-  pub record PlaceWaits (x n : ℕ) (done : List Datum) (left : Arguments) (rest : Setting → Reach) (t : Mode) (p : ℕ) (stack : List ℕ) (c : ℕ) (a : Around) : Type 0 where
+  pub record PlaceWaits (q : Callee) (done : List Datum) (left : Arguments) (rest : Setting → Reach) (t : Mode) (p : ℕ) (stack : List ℕ) (c : ℕ) (a : Around) : Type 0 where
     pub of : Designator
     pub mode : t ≡ AtPlace of
     pub empty : stack ≡ []
@@ -821,10 +833,10 @@ module _ (ctx : Setting) where
     pub address : InstrsAt piece (address_code (access_of l of)) p tested
     pub start : ℕ
     pub push : IsAt piece tested Psh start
-    pub pending : Pending x n done (Address (shape_of l.scope of) ∷ []) left rest start c a
+    pub pending : Pending q done (Address (shape_of l.scope of) ∷ []) left rest start c a
 
   -- the place of the next argument is to come, and all that lies there goes to the frame to come
-  pub record AllWaits (x n : ℕ) (done : List Datum) (left : Arguments) (rest : Setting → Reach) (t : Mode) (p : ℕ) (stack : List ℕ) (c : ℕ) (a : Around) : Type 0 where
+  pub record AllWaits (q : Callee) (done : List Datum) (left : Arguments) (rest : Setting → Reach) (t : Mode) (p : ℕ) (stack : List ℕ) (c : ℕ) (a : Around) : Type 0 where
     pub of : Designator
     pub mode : t ≡ AtPlace of
     pub empty : stack ≡ []
@@ -832,10 +844,10 @@ module _ (ctx : Setting) where
     pub address : InstrsAt piece (address_code (access_of l of)) p tested
     pub start : ℕ
     pub push : IsAt piece tested (Psm (words (shape_of l.scope of))) start
-    pub pending : Pending x n done (shape_of l.scope of ∷ []) left rest start c a
+    pub pending : Pending q done (shape_of l.scope of ∷ []) left rest start c a
 
   -- the place of the next argument is to come, an array, whose address and the number of its last element go to the frame to come
-  pub record ArrayWaits (x n high : ℕ) (done : List Datum) (left : Arguments) (rest : Setting → Reach) (t : Mode) (p : ℕ) (stack : List ℕ) (c : ℕ) (a : Around) : Type 0 where
+  pub record ArrayWaits (q : Callee) (high : ℕ) (done : List Datum) (left : Arguments) (rest : Setting → Reach) (t : Mode) (p : ℕ) (stack : List ℕ) (c : ℕ) (a : Around) : Type 0 where
     pub of : Designator
     pub mode : t ≡ AtPlace of
     pub empty : stack ≡ []
@@ -849,7 +861,30 @@ module _ (ctx : Setting) where
     pub start : ℕ
     pub push : IsAt piece first Psh start
     pub copied : Bool
-    pub pending : Pending x n done (Opened copied (element_of (shape_of l.scope of)) ∷ []) left rest start c a
+    pub pending : Pending q done (Opened copied (element_of (shape_of l.scope of)) ∷ []) left rest start c a
+
+  -- the value of what is called is to come: then come the mark, the arguments and the call. What was saved before stands above the frame
+  pub record CallingWaits (given : Arguments) (rest : Setting → Reach) (t : Mode) (p : ℕ) (stack : List ℕ) (c : ℕ) (a : Around) : Type 0 where
+    pub kind : Kind
+    pub mode : t ≡ ValueOf kind
+    pub empty : stack ≡ []
+    pub before : Setting
+    pub resumed : Resumed
+    pub is : ctx ≡ pushing before (saved_words resumed)
+    pub saved : AreSaved h.shadow resumed (top_of before.stack.frame)
+    pub outer : Around
+    pub around : a ≡ record { exit = None; taken = outer.taken }
+    pub end : ℕ
+    pub here : ValueCallRow l piece kind (result_in resumed) given (GivenAt l piece given) p end
+    pub after : ℕ
+    pub restore : RestoresAt piece resumed end after
+    pub within : after < length piece
+    pub then : rest before (resumed_mode resumed) after (resumed_stack resumed) c outer
+
+  -- so many zeros of a string's array are left to come: they are counted on the expression stack
+  abbrev pub ZerosLeft : (count left p end : ℕ) → List ℕ → Type 0
+  ZerosLeft count zero p end stack = (p ≡ end) × (stack ≡ [])
+  ZerosLeft count (suc left) p end stack = (from : ℕ) × (row : ZerosRow l piece count from end) × (p ≡ row.turn) × (stack ≡ suc left ∷ [])
 
   -- the end of a procedure or a body
   pub record EndWaits (n : ℕ) (k : List Item) (rest : Setting → Reach) (t : Mode) (p : ℕ) (stack : List ℕ) (c : ℕ) (a : Around) : Type 0 where
@@ -869,11 +904,28 @@ module _ (ctx : Setting) where
   ItemWaits (Perform (Turns x kind z step left body)) k rest = TurnsTask x kind z step left body (rest ctx)
   ItemWaits (Perform (Holding place)) k rest = HoldingWaits place rest
   ItemWaits (Perform (End n)) k rest = EndWaits n k rest
-  ItemWaits (Fill (Pass (Called x n) kind done left)) k rest = ValueWaits x n kind done left rest
-  ItemWaits (Fill (PassPlace (Called x n) done left)) k rest = PlaceWaits x n done left rest
-  ItemWaits (Fill (PassAll (Called x n) done left)) k rest = AllWaits x n done left rest
-  ItemWaits (Fill (PassArray (Called x n) high done left)) k rest = ArrayWaits x n high done left rest
+  ItemWaits (Fill (Pass (Called q) kind done left)) k rest = ValueWaits q kind done left rest
+  ItemWaits (Fill (PassPlace (Called q) done left)) k rest = PlaceWaits q done left rest
+  ItemWaits (Fill (PassAll (Called q) done left)) k rest = AllWaits q done left rest
+  ItemWaits (Fill (PassArray (Called q) high done left)) k rest = ArrayWaits q high done left rest
+  ItemWaits (Fill (Calling given)) k rest = CallingWaits given rest
   ItemWaits i k rest = Waiting i (rest ctx)
+
+-- the characters of a string and some of the zeros behind it stand above a pending call: those words are the next argument, when all are there
+pub record SpellingWaits (ctx : Setting) (q : Callee) (cs : List ℕ) (todo : ℕ) (done : List Datum) (left : Arguments) (rest : Setting → Reach) (t : Mode) (p : ℕ) (stack : List ℕ) (c : ℕ) (a : Around) : Type 0 where
+  pub quiet : t ≡ Quiet
+  pub count : ℕ
+  pub fits : length cs ≤ count
+  pub low : count ≤ 65535
+  pub text : is_text cs ≡ true
+  pub zeros : ℕ
+  pub zeros_are : zeros ≡ min todo (count - length cs)
+  pub inner : Setting
+  pub is : ctx ≡ pushing inner (count - zeros)
+  pub words : (i : ℕ) → i < count - zeros → ctx.home.shadow (top_of inner.stack.frame + i) ≡ get_or cs i 0
+  pub end : ℕ
+  pub at : ZerosLeft ctx (count - length cs) zeros p end stack
+  pub pending : Pending inner q done (Row count (Word OfCharacter) ∷ []) left rest end c a
 
 -- Items that are left; the last is an end. Jumps may lead to the code of each.
 abbrev pub RowsOf : List Item → Setting → Reach
@@ -883,10 +935,11 @@ RowsOf (i ∷ k) ctx = AfterJumps ctx.stack.frame.piece (ItemWaits ctx i k (Rows
 abbrev pub Rows : Setting → List Item → Reach
 Rows ctx k = RowsOf k ctx
 
--- all that is left, or nothing. A call whose next argument is at hand comes first
+-- all that is left, or nothing. A call whose next argument is at hand comes first, and so does a string that comes to one
 abbrev pub Ahead : Setting → List Item → Reach
 Ahead ctx [] = EndedWaits ctx
-Ahead ctx (Perform (Passing (Called x n) done left) ∷ k) = AfterJumps ctx.stack.frame.piece (PendingWaits ctx x n done left (RowsOf k))
+Ahead ctx (Perform (Passing (Called q) done left) ∷ k) = AfterJumps ctx.stack.frame.piece (PendingWaits ctx q done left (RowsOf k))
+Ahead ctx (Perform (Spelling (Called q) cs todo done left) ∷ k) = AfterJumps ctx.stack.frame.piece (SpellingWaits ctx q cs todo done left (RowsOf k))
 Ahead ctx (i ∷ k) = Rows ctx (i ∷ k)
 
 -- ---- how long items can stutter: a count that falls at each step of the source that takes no step of the machine
@@ -911,6 +964,8 @@ abbrev mutual
   value_stutter (WithSpan s k a b) = 1 + value_stutter s + (value_stutter a + value_stutter b)
   value_stutter (Invoke p n k given) = 2 + passing_stutter given
   value_stutter (High n x) = 1
+  value_stutter (Routine p n) = 1
+  value_stutter (InvokeValue e k given) = 1 + value_stutter e + passing_stutter given
 
   pub argument_stutter : Argument → ℕ
   argument_stutter (ByValue k e) = value_stutter e
@@ -919,6 +974,7 @@ abbrev mutual
   argument_stutter (OfArray copied d high) = place_stutter d
   argument_stutter (OfText cs) = 0
   argument_stutter (OfOpened copied n x) = 0
+  argument_stutter (Spelled cs count) = 0
 
   pub passing_stutter : Arguments → ℕ
   passing_stutter NoMore = 0
@@ -945,6 +1001,7 @@ abbrev mutual
   statement_stutter Return = 1
   statement_stutter (Answer k e) = 1 + value_stutter e
   statement_stutter (Call p n given) = 1 + passing_stutter given
+  statement_stutter (CallValue e given) = 1 + value_stutter e + passing_stutter given
   statement_stutter (For x k a b step body) = 1 + value_stutter a + value_stutter b
 
   pub body_stutter : Statements → ℕ
@@ -985,6 +1042,7 @@ hole_stutter (MembersTo s k u) = 0
 hole_stutter (MemberBy out k e) = value_stutter e
 hole_stutter (MemberAt out p k) = 0
 hole_stutter (Pass r k done left) = passing_stutter left
+hole_stutter (Calling given) = passing_stutter given
 hole_stutter (Returning k) = 0
 hole_stutter (Choose a b) = 0
 hole_stutter (Turn c body) = 0
@@ -996,6 +1054,7 @@ hole_stutter (LimitOf x k v step body) = 0
 abbrev pub task_stutter : Task → ℕ
 task_stutter (Do s) = statement_stutter s
 task_stutter (Passing r done left) = passing_stutter left
+task_stutter (Spelling r cs todo done left) = 1 + todo + passing_stutter left
 task_stutter (Until body c) = 1 + value_stutter c
 task_stutter (Looping body) = 0
 task_stutter (Turns x k z step left body) = 0

@@ -3,8 +3,8 @@ use Rattle.std.proofs.Common.{◌≡◌, ℕ, pos, negsuc, Bool, true, false, Li
 use Rattle.std.specs.Prelude.{◌&&◌, Ok, Err, codes}
 use Rattle.lil_base.specs.{Words.{Cardinal, Integer, between}, declared.{operator.TwoOp.TheVariants.{Equal, Less, AtLeast, Plus, Minus, Times, Div, Mod}, request.Request.TheVariants.{Write, WriteCard, WriteInt, WriteOct, WriteHex}}}
 use Rattle.lil_base.specs.declared.fault.TrapKind.TheVariants as trap
-use Rattle.lil_resolved.specs.Kinds.{Workspaces, Kind, OfWhole, OfTruth, OfCharacter, OfPointer, OfRange, Scalar, Number, Truth, Character, SetOf, ToObject, Nil, Nothing, within, value_with, Shape, Word, Row, Address, Opened, fields_of}
-use Rattle.lil_resolved.specs.Resolved.{Named, OfModule, OfLevel, Designator, Variable, Handed, Along, Field, Element, Chr, Val, Expression, Constant, Taken, Two, Invoke, High, ByValue, OfPlace, OfAll, OfArray, OfText, OfOpened, NoMore, given_in, Answer, If, Statement, Assign, Change, Request, Loop, Halt, Return, Call, For, Statements, Empty, Then, Arms, NoElse, Else, Arm, Procedure, Resolved, in_order}
+use Rattle.lil_resolved.specs.Kinds.{Workspaces, Kind, OfWhole, OfTruth, OfCharacter, OfPointer, OfProcedure, OfRange, Scalar, Number, Truth, Character, SetOf, ToObject, Nil, Nothing, within, value_with, Shape, Word, Row, Address, Opened, fields_of}
+use Rattle.lil_resolved.specs.Resolved.{Named, OfModule, OfLevel, Designator, Variable, Handed, Along, Field, Element, Chr, Val, Expression, Constant, Taken, Two, Invoke, High, Routine, ByValue, OfPlace, OfAll, OfArray, OfText, OfOpened, Spelled, NoMore, given_in, Answer, If, Statement, Assign, Change, Request, Loop, Halt, Return, Call, CallValue, For, Statements, Empty, Then, Arms, NoElse, Else, Arm, Procedure, Resolved, in_order}
 use Rattle.lil_meaning.specs.{Items.{Phase, Global, got, Do, Looping, Turns, End, Item, Perform, Ended, Trapped}, World.{World, Single, piece_of, Stream, Channel, OpenBy, Closed, all_closed}, Steps.{applied, function_value, chosen, turns, exited}, Runs.{src, state_of}, Need.chain_of}
 
 -- ---- the turns of FOR: up to the greatest number, none downward, down by two, and past the limit
@@ -81,7 +81,7 @@ abbrev cardinal : ℕ → Expression
 cardinal n = Constant (OfWhole Cardinal) (Number (pos n))
 
 abbrev program : List Statement → Resolved
-program statements = record { name = []; targets = []; names = (99 ∷ []) ∷ []; variables = Word kc ∷ []; procedures = []; body = in_order statements }
+program statements = record { name = []; targets = []; signatures = []; names = (99 ∷ []) ∷ []; variables = Word kc ∷ []; procedures = []; body = in_order statements }
 
 abbrev writes_x : Statement
 writes_x = Request Write (given_in (ByValue OfCharacter (Constant OfCharacter (Character 120)) ∷ []))
@@ -136,7 +136,7 @@ abbrev pairs : Shape
 pairs = Row 3 (fields_of (Word OfTruth ∷ Word kc ∷ []))
 
 abbrev table : List Statement → Resolved
-table statements = record { name = []; targets = []; names = (97 ∷ []) ∷ (99 ∷ []) ∷ []; variables = pairs ∷ Word kc ∷ []; procedures = []; body = in_order statements }
+table statements = record { name = []; targets = []; signatures = []; names = (97 ∷ []) ∷ (99 ∷ []) ∷ []; variables = pairs ∷ Word kc ∷ []; procedures = []; body = in_order statements }
 
 abbrev second : Expression → Designator
 second e = Field (Element (Variable (OfModule 0)) digit e) 1
@@ -321,6 +321,29 @@ a_function_without_value w = refl
 
 a_value_outside : (w : World) → (state_of (function_with (Answer digit (cardinal 77) ∷ [])) (idle w) 40).phase ≡ Trapped (record { kind = trap.Range; «module» = []; procedure = Some (103 ∷ []) })
 a_value_outside w = refl
+
+-- ---- procedures as values: a variable that holds none traps, before the arguments; else the one that it holds is called, with a string cell by cell
+abbrev pv : Kind
+pv = OfProcedure 20
+
+abbrev letters : Shape
+letters = Row 3 (Word OfCharacter)
+
+-- writes the second character of what it is given
+abbrev writes_second : Procedure
+writes_second = record { name = 112 ∷ []; around = []; locals = letters ∷ []; parameters = 1; result = None; body = Then (Request Write (given_in (ByValue OfCharacter (Taken (Element (Variable (OfLevel 0 0)) (OfRange kc (pos 0) (pos 2)) (cardinal 1)) OfCharacter) ∷ []))) Empty }
+
+abbrev of_values : List Statement → Resolved
+of_values statements = record { name = []; targets = []; signatures = []; names = (102 ∷ []) ∷ []; variables = Word pv ∷ []; procedures = writes_second ∷ []; body = in_order statements }
+
+abbrev calls_it : Statement
+calls_it = CallValue (Taken c pv) (given_in (Spelled (72 ∷ 73 ∷ []) 3 ∷ []))
+
+no_procedure : (w : World) → (state_of (of_values (calls_it ∷ [])) (idle w) 20).phase ≡ Trapped (record { kind = trap.NoProcedure; «module» = []; procedure = None })
+no_procedure w = refl
+
+a_value_called : (w : World) → (state_of (of_values (Assign c pv (Routine 1 20) ∷ calls_it ∷ [])) (idle w) 40).world.screen ≡ w.screen ++ 73 ∷ []
+a_value_called w = refl
 
 -- ---- the end of a level closes its stream first, and then its channels, a step each; a channel of another level stays
 abbrev stream : Stream

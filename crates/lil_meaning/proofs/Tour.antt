@@ -26,7 +26,7 @@ abbrev given : Arguments
 given = given_in (ByValue OfCharacter (Apply Chr plus) ∷ [])
 
 abbrev tour : Resolved
-tour = record { name = []; targets = []; names = []; variables = Word k ∷ []; procedures = []; body = in_order (Assign c k (n 7) ∷ Request Write given ∷ []) }
+tour = record { name = []; targets = []; signatures = []; names = []; variables = Word k ∷ []; procedures = []; body = in_order (Assign c k (n 7) ∷ Request Write given ∷ []) }
 
 abbrev at : World → ℕ → Source
 at w i = state_of tour (record w { streams = []; channels = [] }) i

@@ -135,10 +135,30 @@ with_locals cells a done ts (Local b x) q = if b == a then begun cells (slice_ge
 with_locals cells a done ts (Global m x) q = cells (Global m x) q
 with_locals cells a done ts (Object o) q = cells (Object o) q
 
--- what takes arguments: a resident procedure, by its request, or a procedure of the module, by its number, which is declared so many levels out
+-- what is called: a procedure of the module at hand, by its number, which is declared so many levels out, or one that is a value, by the numbers of
+-- its module and its own
+pub data Callee : Type 0 where
+  ByNumber : (p n : ℕ) → Callee
+  OfValue : (m p : ℕ) → Callee
+
+abbrev pub callee_number : Callee → ℕ
+callee_number (ByNumber p n) = p
+callee_number (OfValue m p) = p
+
+-- no procedure is around one that is a value
+abbrev pub callee_levels : Callee → ℕ
+callee_levels (ByNumber p n) = n
+callee_levels (OfValue m p) = 0
+
+-- its module, where this one is at hand
+abbrev pub callee_owner : (here : ℕ) → Callee → ℕ
+callee_owner here (ByNumber p n) = here
+callee_owner here (OfValue m p) = m
+
+-- what takes arguments: a resident procedure, by its request, or what is called
 pub data Receiver : Type 0 where
   Requested : (r : Request) → Receiver
-  Called : (p n : ℕ) → Receiver
+  Called : (c : Callee) → Receiver
 
 -- the items with a hole
 pub data Hole : Type 0 where
@@ -206,6 +226,8 @@ pub data Hole : Type 0 where
   PassAll : (r : Receiver) (done : List Datum) (left : Arguments) → Hole
   -- the array ·, with this last element, is the next argument
   PassArray : (r : Receiver) (high : ℕ) (done : List Datum) (left : Arguments) → Hole
+  -- the procedure that is the value · is called
+  Calling : (given : Arguments) → Hole
   -- RETURN · of a function, whose values are of a kind
   Returning : (k : Kind) → Hole
   -- the first statements where · is TRUE, else the second
@@ -228,6 +250,8 @@ pub data Task : Type 0 where
   Do : (s : Statement) → Task
   -- the arguments that are done, and those that are left
   Passing : (r : Receiver) (done : List Datum) (left : Arguments) → Task
+  -- so many characters of a string, and 0C behind it, are left to come to the array by value that is the next argument
+  Spelling : (r : Receiver) (cs : List ℕ) (todo : ℕ) (done : List Datum) (left : Arguments) → Task
   -- the condition of a REPEAT, behind its body
   Until : (body : Statements) (c : Expression) → Task
   -- the end of a LOOP's body, which begins again

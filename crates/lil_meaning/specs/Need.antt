@@ -1,7 +1,7 @@
 -- What the calls at hand need of the stack.
-use Rattle.std.specs.Prelude.{ℕ, zero, suc, true, ◌+◌, ◌*◌, ◌<◌, ◌≡◌, ◌⊎◌, List, [], ◌∷◌, length, Option, Some, None, slice_get}
+use Rattle.std.specs.Prelude.{ℕ, zero, suc, Bool, true, false, ◌+◌, ◌*◌, ◌<◌, ◌≡◌, ◌⊎◌, List, [], ◌∷◌, length, Option, Some, None, slice_get}
 use Rattle.lil_resolved.specs.{Kinds.{Shape, Opened, words}, Resolved.{Procedure, Resolved, procedure_by}, Sizes.frame_words}
-use Rattle.lil_meaning.specs.{Items.{loaded_at, Receiver, Requested, Called, Hole, Pass, PassPlace, PassAll, PassArray, Task, Passing, End, Item, Fill, Perform, Slot, Here, At, Along, Activation, Source}, Steps.{current, owner_of, procedures_of}}
+use Rattle.lil_meaning.specs.{Items.{loaded_at, Callee, callee_number, callee_owner, Receiver, Requested, Called, Hole, Pass, PassPlace, PassAll, PassArray, Calling, Task, Passing, Spelling, End, Item, Evaluate, Fill, Perform, Slot, Here, At, Along, Activation, Source}, Steps.{current, owner_of, procedures_of}}
 
 -- how many words the frame of a procedure takes
 abbrev pub frame_by : Option Procedure → ℕ
@@ -56,6 +56,7 @@ hole_receiver _ = None
 
 abbrev pub task_receiver : Task → Option Receiver
 task_receiver (Passing r done left) = Some r
+task_receiver (Spelling r cs todo done left) = Some r
 task_receiver _ = None
 
 abbrev pub receiver_of : Item → Option Receiver
@@ -64,33 +65,40 @@ receiver_of (Perform t) = task_receiver t
 receiver_of _ = None
 
 -- a call takes the same from the start of its arguments on
-abbrev pub pending_cost : Option Resolved → Option Receiver → ℕ
-pending_cost m None = 0
-pending_cost m (Some (Requested r)) = 0
-pending_cost m (Some (Called p n)) = frame_of m p + 17
+abbrev pub pending_cost : List Resolved → List ℕ → (here : ℕ) → Option Receiver → ℕ
+pending_cost library loaded here None = 0
+pending_cost library loaded here (Some (Requested r)) = 0
+pending_cost library loaded here (Some (Called c)) = frame_of (loaded_at library loaded (callee_owner here c)) (callee_number c) + 17
 
--- what all calls take whose arguments or ends are left
+-- what all calls take whose arguments or ends are left; before that the words that are saved for one whose value is to come
 abbrev pub chain : List Resolved → List ℕ → List Activation → List Item → ℕ
 chain library loaded acts [] = 0
 chain library loaded acts (Perform (End a) ∷ k) = cost library loaded (slice_get acts a) + with_callers (slice_get acts a) (chain library loaded acts k)
-chain library loaded acts (i ∷ k) = pending_cost (loaded_at library loaded (owner_of (slice_get acts (current k)))) (receiver_of i) + chain library loaded acts k
+chain library loaded acts (Fill (Calling given) ∷ k) = 17 + chain library loaded acts k
+chain library loaded acts (i ∷ k) = pending_cost library loaded (owner_of (slice_get acts (current k))) (receiver_of i) + chain library loaded acts k
 
 -- the same of a state
 abbrev pub chain_of : List Resolved → Source → ℕ
 chain_of library s = chain library s.loaded s.activations s.items
 
 -- ---- whether a call has begun
--- the procedure of whose call an argument or the begin comes next
-abbrev pub next_called : List Item → Option ℕ
-next_called (Perform (Passing (Called p n) done left) ∷ k) = Some p
+-- what is called where an argument or the begin comes next
+abbrev pub next_called : List Item → Option Callee
+next_called (Perform (Passing (Called c) done left) ∷ k) = Some c
+next_called (Perform (Spelling (Called c) cs todo done left) ∷ k) = Some c
 next_called _ = None
 
 pub record IsCalling (library : List Resolved) (s : Source) : Type 0 where
-  pub number : ℕ
+  pub callee : Callee
   pub its : Procedure
-  pub is : next_called s.items ≡ Some number
-  pub there : procedure_by (procedures_of (loaded_at library s.loaded (owner_of (slice_get s.activations (current s.items))))) number ≡ Some its
+  pub is : next_called s.items ≡ Some callee
+  pub there : procedure_by (procedures_of (loaded_at library s.loaded (callee_owner (owner_of (slice_get s.activations (current s.items))) callee))) (callee_number callee) ≡ Some its
 
--- there is an activation behind the first one, or one of a procedure that is there is to come
+-- the value of what is called is to come
+abbrev pub awaits_value : List Item → Bool
+awaits_value (Evaluate e ∷ Fill (Calling given) ∷ k) = true
+awaits_value _ = false
+
+-- there is an activation behind the first one, or one of a procedure that is there, or of one that is a value, is to come
 abbrev pub HasCalls : List Resolved → Source → Type 0
-HasCalls library s = (1 < length s.activations) ⊎ IsCalling library s
+HasCalls library s = (1 < length s.activations) ⊎ (IsCalling library s ⊎ (awaits_value s.items ≡ true))

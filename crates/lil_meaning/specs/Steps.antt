@@ -5,10 +5,10 @@ use Rattle.lil_base.specs.{Words.{Whole, Cardinal, sum, difference, product, quo
 use Rattle.lil_base.specs.declared.operator.TwoOp.TheVariants.{Equal, Unequal, Less, AtMost, Greater, AtLeast, In, Plus, Minus, Times, Slash, Div, Mod}
 use Rattle.lil_base.specs.declared.fault.TrapKind.TheVariants as trap
 use Rattle.lil_base.specs.declared.operator.OneOp.TheVariants as one
-use Rattle.lil_resolved.specs.Kinds.{Kind, OfWhole, OfTruth, OfCharacter, OfEnumeration, OfRange, is_set, is_pointer, nat_of, position, Scalar, Number, Truth, Character, SetOf, ToObject, ToWorkspace, Nil, Nothing, same_reference, within, scalar_word, value_with, ordinal_of, truth_number, truth_of, members_of, Shape, Opened, shape_at}
+use Rattle.lil_resolved.specs.Kinds.{Kind, OfWhole, OfTruth, OfCharacter, OfEnumeration, OfRange, is_set, is_pointer, nat_of, position, Scalar, Number, Truth, Character, SetOf, ToObject, ToWorkspace, ToProcedure, Nil, Nothing, same_reference, within, scalar_word, value_with, ordinal_of, truth_number, truth_of, members_of, Shape, Opened, shape_at}
 use Rattle.lil_resolved.specs.Members.{same_members, included, is_in, united, without, shared_members, unshared, from_to}
-use Rattle.lil_resolved.specs.Resolved.{Named, OfModule, OfLevel, Designator, Variable, Handed, Along, Held, Field, Element, Follow, Function, Abs, Cap, Chr, Odd, Ord, Val, Expression, Constant, Taken, One, Two, Short, Apply, With, WithSpan, Invoke, High, Argument, ByValue, OfPlace, OfAll, OfArray, OfText, OfOpened, Arguments, NoMore, Also, Label, Statement, Assign, Copy, Text, Change, Member, New, Allocate, Request, If, Case, While, Repeat, Loop, Exit, Halt, Return, Answer, Call, For, Inside, Statements, Arms, NoElse, Else, Arm, Procedure, Resolved, procedure_by, counted_as}
-use Rattle.lil_meaning.specs.Items.{Cells, with_locals, Global, Local, Slot, Here, At, Along as Spread, Place, under, part_of, object_place, stored, got, alone, text_under, zeros_under, targets_of, loaded_at, Datum, Scalars, Places, Wholes, Opens, Texts, Hole, Get, Part, IndexBy, IndexAt, AlongAt, Pointed, SetTo, StoreAt, CopyTo, CopyFrom, TextTo, NewAt, AllocateBy, AllocateAt, ChangeBy, ChangeAt, OneOf, LeftOf, RightOf, ShortOf, ApplyTo, WithMember, MemberOf, WithMembers, MembersFrom, MembersTo, MemberBy, MemberAt, Receiver, Requested, Called, Pass, PassPlace, PassAll, PassArray, Returning, Choose, Turn, Again, Pick, Hold, StartOf, LimitOf, Task, Do, Passing, Until, Looping, Turns, Holding, End, Item, Value, Evaluate, PlaceOf, Fill, Perform, doing, Activation, Parked, Level, Phase, Going, Closing, Ended, Trapped, Source}
+use Rattle.lil_resolved.specs.Resolved.{Named, OfModule, OfLevel, Designator, Variable, Handed, Along, Held, Field, Element, Follow, Function, Abs, Cap, Chr, Odd, Ord, Val, Expression, Constant, Taken, One, Two, Short, Apply, With, WithSpan, Invoke, High, Routine, InvokeValue, Argument, ByValue, OfPlace, OfAll, OfArray, OfText, OfOpened, Spelled, Arguments, NoMore, Also, Label, Statement, Assign, Copy, Text, Change, Member, New, Allocate, Request, If, Case, While, Repeat, Loop, Exit, Halt, Return, Answer, Call, CallValue, For, Inside, Statements, Arms, NoElse, Else, Arm, Procedure, Resolved, procedure_by, counted_as}
+use Rattle.lil_meaning.specs.Items.{Cells, with_locals, Global, Local, Slot, Here, At, Along as Spread, Place, under, part_of, object_place, stored, got, alone, text_under, zeros_under, targets_of, loaded_at, Datum, Scalars, Places, Wholes, Opens, Texts, Hole, Get, Part, IndexBy, IndexAt, AlongAt, Pointed, SetTo, StoreAt, CopyTo, CopyFrom, TextTo, NewAt, AllocateBy, AllocateAt, ChangeBy, ChangeAt, OneOf, LeftOf, RightOf, ShortOf, ApplyTo, WithMember, MemberOf, WithMembers, MembersFrom, MembersTo, MemberBy, MemberAt, Callee, ByNumber, OfValue, callee_number, callee_levels, callee_owner, Receiver, Requested, Called, Pass, PassPlace, PassAll, PassArray, Calling, Returning, Choose, Turn, Again, Pick, Hold, StartOf, LimitOf, Task, Do, Passing, Spelling, Until, Looping, Turns, Holding, End, Item, Value, Evaluate, PlaceOf, Fill, Perform, doing, Activation, Parked, Level, Phase, Going, Closing, Ended, Trapped, Source}
 use Rattle.lil_meaning.specs.World.{World, Given, Single, Characters, serve, closing}
 
 -- the activation at hand: that of the nearest end
@@ -324,8 +324,10 @@ evaluated (Short d a b) k s = with_items s (Evaluate a ∷ Fill (ShortOf d b) �
 evaluated (Apply f a) k s = with_items s (Evaluate a ∷ Fill (ApplyTo f) ∷ k)
 evaluated (With e kind a) k s = with_items s (Evaluate e ∷ Fill (WithMember kind a) ∷ k)
 evaluated (WithSpan e kind a b) k s = with_items s (Evaluate e ∷ Fill (WithMembers kind a b) ∷ k)
-evaluated (Invoke p n kind given) k s = with_items s (Perform (Passing (Called p n) [] given) ∷ k)
+evaluated (Invoke p n kind given) k s = with_items s (Perform (Passing (Called (ByNumber p n)) [] given) ∷ k)
 evaluated (High n x) k s = measured (array_of s n x) k s
+evaluated (Routine p n) k s = with_items s (Value (Scalars (ToProcedure (module_now s) p)) ∷ k)
+evaluated (InvokeValue e kind given) k s = with_items s (Evaluate e ∷ Fill (Calling given) ∷ k)
 
 -- what INC and DEC make of two numbers
 abbrev pub changed : Bool → Whole → ℤ → ℤ → Result ℤ ArithFault
@@ -370,6 +372,12 @@ abbrev pub allocated : Bool → ℕ → Place → List Item → Source → Sourc
 allocated false n p k s = record s { items = k; workspaces = s.workspaces ++ record { size = n; carries = None } ∷ []; cells = stored s.cells p (alone (ToWorkspace (length s.workspaces))) }
 allocated true n p k s = record s { items = k; cells = stored s.cells p (alone Nil) }
 
+-- the procedure that is a value is called, and where it is none that is a trap
+abbrev pub value_called : List Resolved → Scalar → Arguments → List Item → Source → Source
+value_called library (ToProcedure m p) given k s = with_items s (Perform (Passing (Called (OfValue m p)) [] given) ∷ k)
+value_called library Nil given k s = trapped library s trap.NoProcedure
+value_called library _ given k s = s
+
 -- a scalar goes into a hole
 abbrev pub filled : List Resolved → Hole → Scalar → List Item → Source → Source
 filled library (IndexAt p kind) v k s = if within kind v then with_items s (Value (Places (part_of p (position kind (ordinal_of v)))) ∷ k) else trapped library s trap.Range
@@ -395,6 +403,7 @@ filled library (Turn c body) v k s = with_items s (if truth_of v then doing body
 filled library (Again body c) v k s = with_items s (if truth_of v then k else Perform (Do (Repeat body c)) ∷ k)
 filled library (Pick arms) v k s = picked library (chosen arms (ordinal_of v)) k s
 filled library (StartOf x kind b step body) v k s = with_items s (Evaluate b ∷ Fill (LimitOf x kind v step body) ∷ k)
+filled library (Calling given) v k s = value_called library v given k s
 filled library (LimitOf x kind u step body) v k s = with_items s (Perform (Turns x kind (ordinal_of u) step (turns (ordinal_of u) (ordinal_of v) step) body) ∷ k)
 filled library _ v k s = s
 
@@ -471,9 +480,9 @@ slots_by a x [] ts = map own_slot ts
 slots_by a x (d ∷ done) [] = []
 slots_by a x (d ∷ done) (t ∷ ts) = slot_of (record { root = Local a x; path = [] }) t d ∷ slots_by a (suc x) done ts
 
--- the activation of a procedure that the one at hand calls
-abbrev pub called_by : List Activation → (owner here p n : ℕ) → List Datum → Procedure → Activation
-called_by acts owner here p n done its = record { owner = owner; procedure = p; outer = declaring acts here n; slots = slots_by (length acts) 0 done its.locals }
+-- the activation of a procedure of a module that the one at hand calls
+abbrev pub called_by : List Activation → (owner here : ℕ) → Callee → List Datum → Procedure → Activation
+called_by acts owner here c done its = record { owner = owner; procedure = callee_number c; outer = declaring acts here (callee_levels c); slots = slots_by (length acts) 0 done its.locals }
 
 -- a procedure begins: its activation, whose other variables are zero, its statements and its end
 abbrev pub entered : Option Procedure → (Procedure → Activation) → List Datum → List Item → Source → Source
@@ -484,10 +493,12 @@ entered (Some its) a done k s = record s {
   items = doing its.body (Perform (End (length s.activations)) ∷ k);
 }
 
-abbrev pub called : List Resolved → (p n : ℕ) → List Datum → List Item → Source → Source
-called library p n done k s =
-    entered (procedure_by (procedures_of (loaded_at library s.loaded (owner_of (slice_get s.activations (current k))))) p)
-    (called_by s.activations (owner_of (slice_get s.activations (current k))) (current k) p n done) done k s
+abbrev pub called_in : List Resolved → (owner : ℕ) → Callee → List Datum → List Item → Source → Source
+called_in library owner c done k s =
+    entered (procedure_by (procedures_of (loaded_at library s.loaded owner)) (callee_number c)) (called_by s.activations owner (current k) c done) done k s
+
+abbrev pub called : List Resolved → Callee → List Datum → List Item → Source → Source
+called library c done k s = called_in library (callee_owner (owner_of (slice_get s.activations (current k))) c) c done k s
 
 -- a procedure or a body ends, by its end or by RETURN: what stands behind its end is next
 abbrev pub activation_ended : List Item → Source → Source
@@ -528,7 +539,8 @@ did library (Member out d kind e) k s = with_items s (PlaceOf d ∷ Fill (Member
 did library Halt k s = trapped library s trap.Halted
 did library Return k s = activation_ended (returned k) s
 did library (Answer kind e) k s = with_items s (Evaluate e ∷ Fill (Returning kind) ∷ k)
-did library (Call p n given) k s = with_items s (Perform (Passing (Called p n) [] given) ∷ k)
+did library (Call p n given) k s = with_items s (Perform (Passing (Called (ByNumber p n)) [] given) ∷ k)
+did library (CallValue e given) k s = with_items s (Evaluate e ∷ Fill (Calling given) ∷ k)
 did library Exit k s = with_items s (exited k)
 did library (For x kind a b step body) k s = with_items s (Evaluate a ∷ Fill (StartOf x kind b step body) ∷ k)
 
@@ -558,6 +570,7 @@ passed r done left (OfAll d) k s = with_items s (PlaceOf d ∷ Fill (PassAll r d
 passed r done left (OfArray copied d high) k s = with_items s (PlaceOf d ∷ Fill (PassArray r high done left) ∷ k)
 passed r done left (OfText cs) k s = with_items s (Perform (Passing r (done ++ Texts cs ∷ []) left) ∷ k)
 passed r done left (OfOpened copied n x) k s = handed_on (array_of s n x) r done left k s
+passed r done left (Spelled cs count) k s = with_items s (Perform (Spelling r cs count done left) ∷ k)
 
 -- a request was served; one that answers gets its row with its answers
 abbrev pub replied : List Datum → List Given → World → List Item → Source → Source
@@ -570,15 +583,21 @@ served done r k s = replied done r.1 r.0 k s
 -- all arguments are there
 abbrev pub received : List Resolved → Receiver → List Datum → List Item → Source → Source
 received library (Requested r) done k s = served done (serve (level_of s) r (map (given_of s.cells) done) s.world) k s
-received library (Called p n) done k s = called library p n done k s
+received library (Called c) done k s = called library c done k s
 
 abbrev pub passed_on : List Resolved → Receiver → List Datum → Arguments → List Item → Source → Source
 passed_on library r done NoMore k s = received library r done k s
 passed_on library r done (Also a left) k s = passed r done left a k s
 
+-- one character more of a string has come to an array; at its end that is the argument
+abbrev pub spelled : Receiver → List ℕ → ℕ → List Datum → Arguments → List Item → Source → Source
+spelled r cs zero done left k s = with_items s (Perform (Passing r (done ++ Wholes (text_under cs) ∷ []) left) ∷ k)
+spelled r cs (suc todo) done left k s = with_items s (Perform (Spelling r cs todo done left) ∷ k)
+
 abbrev pub performed : List Resolved → Task → List Item → Source → Source
 performed library (Do t) k s = did library t k s
 performed library (Passing r done left) k s = passed_on library r done left k s
+performed library (Spelling r cs todo done left) k s = spelled r cs todo done left k s
 performed library (Until body c) k s = with_items s (Evaluate c ∷ Fill (Again body c) ∷ k)
 performed library (Looping body) k s = with_items s (doing body (Perform (Looping body) ∷ k))
 performed library (Turns x kind z step left body) k s = turned_on library x kind z step left body k s

@@ -16,6 +16,7 @@ own_base k = by k.base k.range
     own b.Set = refl
     own (b.Pointer n) = refl
     own b.Address = refl
+    own (b.Procedure n) = refl
 
     by : (b : RBase) (r : Option RRange) → base_of (ranged_view (base_view b) r) ≡ base_view b
     by b None = own b

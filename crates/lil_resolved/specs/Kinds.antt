@@ -19,6 +19,8 @@ pub data Kind : Type 0 where
   OfSet : Kind
   -- pointers to objects, or the addresses of workspaces
   OfPointer : (to : Pointee) → Kind
+  -- procedures, of the procedure type with this number
+  OfProcedure : (n : ℕ) → Kind
   -- the part of a kind from one number to another
   OfRange : (base : Kind) (low high : ℤ) → Kind
 
@@ -30,6 +32,7 @@ base_of OfCharacter = OfCharacter
 base_of (OfEnumeration n) = OfEnumeration n
 base_of OfSet = OfSet
 base_of (OfPointer to) = OfPointer to
+base_of (OfProcedure n) = OfProcedure n
 base_of (OfRange base low high) = base_of base
 
 -- kinds that aren't a part of another, whose values are words
@@ -40,12 +43,14 @@ is_base OfCharacter = true
 is_base (OfEnumeration n) = nat_le n 65535
 is_base OfSet = true
 is_base (OfPointer to) = true
+is_base (OfProcedure n) = true
 is_base (OfRange base low high) = false
 
 -- those whose values are compared by their numbers
 abbrev pub is_ordinal : Kind → Bool
 is_ordinal OfSet = false
 is_ordinal (OfPointer to) = false
+is_ordinal (OfProcedure n) = false
 is_ordinal k = is_base k
 
 abbrev pub is_set : Kind → Bool
@@ -56,9 +61,18 @@ abbrev pub is_pointer : Kind → Bool
 is_pointer (OfPointer to) = true
 is_pointer _ = false
 
+abbrev pub is_procedure : Kind → Bool
+is_procedure (OfProcedure n) = true
+is_procedure _ = false
+
+-- those whose values are compared with = and #
+abbrev pub is_compared : Kind → Bool
+is_compared (OfProcedure n) = false
+is_compared k = is_base k
+
 -- a kind whose values are no references
 abbrev pub is_plain : Kind → Bool
-is_plain k = not (is_pointer (base_of k))
+is_plain k = not (is_pointer (base_of k) || is_procedure (base_of k))
 
 abbrev pub is_whole : Kind → Bool
 is_whole (OfWhole t) = true
@@ -86,9 +100,13 @@ abbrev pub same_pointer : Kind → Kind → Bool
 same_pointer (OfPointer to) (OfPointer from) = same_pointee to from
 same_pointer _ _ = false
 
--- a value of the second kind may be stored at a place of the first: a pointer too, where it leads to the same
+abbrev pub same_procedures : Kind → Kind → Bool
+same_procedures (OfProcedure m) (OfProcedure n) = m == n
+same_procedures _ _ = false
+
+-- a value of the second kind may be stored at a place of the first: a pointer too, where it leads to the same, and a procedure of the same type
 abbrev pub stores_value : Kind → Kind → Bool
-stores_value k j = takes_value k j || same_pointer k j
+stores_value k j = takes_value k j || (same_pointer k j || same_procedures k j)
 
 -- ---- numbers
 -- the type as which the words of a kind are compared
@@ -110,6 +128,7 @@ least OfCharacter = pos 0
 least (OfEnumeration n) = pos 0
 least OfSet = pos 0
 least (OfPointer to) = pos 0
+least (OfProcedure n) = pos 0
 least (OfRange base low high) = larger low (least base)
 
 abbrev pub greatest : Kind → ℤ
@@ -119,6 +138,7 @@ greatest OfCharacter = pos 255
 greatest (OfEnumeration n) = pos (n - 1)
 greatest OfSet = pos 65535
 greatest (OfPointer to) = pos 0
+greatest (OfProcedure n) = pos 0
 greatest (OfRange base low high) = lesser high (greatest base)
 
 -- each number of the second kind is one of the first
@@ -163,9 +183,10 @@ pub data Scalar : Type 0 where
   SetOf : (s : ℕ → Bool) → Scalar
   ToObject : (o : ℕ) → Scalar
   ToWorkspace : (w : ℕ) → Scalar
+  -- procedure p of the module with the number m
   ToProcedure : (m p : ℕ) → Scalar
   ToCoroutine : (c : ℕ) → Scalar
-  -- the reference that leads nowhere
+  -- the reference that leads nowhere, or no procedure
   Nil : Scalar
   -- no value: one of no kind
   Nothing : Scalar
@@ -191,6 +212,7 @@ scalar_of OfCharacter z = Character (word_of z)
 scalar_of (OfEnumeration n) z = Number z
 scalar_of OfSet z = SetOf (has (word_of z))
 scalar_of (OfPointer to) z = Nil
+scalar_of (OfProcedure n) z = Nil
 scalar_of (OfRange base low high) z = scalar_of base z
 
 -- a reference leads to an object, or a workspace, as is wanted
@@ -208,6 +230,8 @@ within OfSet (SetOf s) = true
 within (OfPointer to) (ToObject o) = to_object to
 within (OfPointer to) (ToWorkspace w) = not (to_object to)
 within (OfPointer to) Nil = true
+within (OfProcedure n) (ToProcedure m p) = true
+within (OfProcedure n) Nil = true
 within (OfRange base low high) v = within base v && between low (ordinal_of v) high
 within _ _ = false
 
@@ -219,6 +243,7 @@ value_with OfCharacter z = if between (pos 0) z (pos 255) then Some (Character (
 value_with (OfEnumeration n) z = if between (pos 0) z (pos (n - 1)) then Some (Number z) else None
 value_with OfSet z = if between (pos 0) z (pos 65535) then Some (SetOf (has (word_of z))) else None
 value_with (OfPointer to) z = if between (pos 0) z (pos 0) then Some Nil else None
+value_with (OfProcedure n) z = if between (pos 0) z (pos 0) then Some Nil else None
 value_with (OfRange base low high) z = if between low z high then value_with base z else None
 
 -- zero of a kind: what a fresh variable holds, also where its range leaves it out
@@ -229,11 +254,13 @@ zero_of OfCharacter = Character 0
 zero_of (OfEnumeration n) = Number (pos 0)
 zero_of OfSet = SetOf no_members
 zero_of (OfPointer to) = Nil
+zero_of (OfProcedure n) = Nil
 zero_of (OfRange base low high) = zero_of base
 
 abbrev pub is_reference : Scalar → Bool
 is_reference (ToObject o) = true
 is_reference (ToWorkspace w) = true
+is_reference (ToProcedure m p) = true
 is_reference _ = false
 
 -- a value of a kind that a text can name: NIL is the only reference
@@ -256,6 +283,10 @@ truth_of _ = false
 abbrev pub members_of : Scalar → ℕ → Bool
 members_of (SetOf s) = s
 members_of _ = no_members
+
+-- the word of a procedure of a module
+abbrev pub procedure_word : (m p : ℕ) → ℕ
+procedure_word m p = 256 * m + p
 
 -- the word that a value is that isn't a reference; that of NIL is 0
 abbrev pub scalar_word : Scalar → ℕ
@@ -364,18 +395,24 @@ pub record Outline : Type 0 where
   pub parameters : ℕ
   pub result : Option Kind
 
--- What the names of statements reach: what pointers point to, by the numbers of their types, the module's variables, and the records of the
--- WITHs around, the innermost first; the procedures of the module, from number 1; and the procedure at hand with those around it by their
--- numbers, the innermost first, of which the body of the module has none.
+-- what procedures of a procedure type have: the shapes of their parameters, and the kind of what they return
+pub record Signature : Type 0 where
+  pub parameters : List Shape
+  pub result : Option Kind
+
+-- What the names of statements reach: what pointers point to, and what procedures of procedure types have, by the numbers of these types, the
+-- module's variables, and the records of the WITHs around, the innermost first; the procedures of the module, from number 1; and the procedure at
+-- hand with those around it by their numbers, the innermost first, of which the body of the module has none.
 pub record Scope : Type 0 where
   pub targets : List Shape
+  pub signatures : List Signature
   pub variables : List Shape
   pub held : List Shape
   pub procedures : List Outline
   pub chain : List ℕ
 
-abbrev pub outermost : (targets variables : List Shape) (procedures : List Outline) (chain : List ℕ) → Scope
-outermost targets variables procedures chain = record { targets = targets; variables = variables; held = []; procedures = procedures; chain = chain }
+abbrev pub outermost : (targets : List Shape) (signatures : List Signature) (variables : List Shape) (procedures : List Outline) (chain : List ℕ) → Scope
+outermost targets signatures variables procedures chain = record { targets = targets; signatures = signatures; variables = variables; held = []; procedures = procedures; chain = chain }
 
 -- inside of a WITH too
 abbrev pub with_held : Scope → Shape → Scope
@@ -397,6 +434,17 @@ pub record MayCall (ts : Scope) (p n : ℕ) : Type 0 where
   pub its : Outline
   pub known : procedure_by ts.procedures p ≡ Some its
   pub declared : Declared ts.chain n its.around
+
+-- ---- procedure types
+abbrev pub outline_signature : Outline → Signature
+outline_signature p = record { parameters = take p.parameters p.locals; result = p.result }
+
+-- a procedure of the module, by its number, may be a value of the procedure type with this number: it is declared in no other, and has what that asks
+pub record MayHold (ts : Scope) (p n : ℕ) : Type 0 where
+  pub its : Outline
+  pub known : procedure_by ts.procedures p ≡ Some its
+  pub declared : its.around ≡ []
+  pub same : slice_get ts.signatures n ≡ Some (outline_signature its)
 
 -- ---- parameters and variables of procedures
 abbrev pub parameters_of : Option Outline → List Shape

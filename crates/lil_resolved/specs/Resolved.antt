@@ -2,7 +2,7 @@
 use Rattle.std.specs.Prelude.{ℕ, ℤ, Bool, true, false, List, [], ◌∷◌, Option, map, slice_get}
 use Rattle.lil_base.specs.{Words.{Whole, Cardinal}, declared.operator.{OneOp.OneOp, TwoOp.{TwoOp, TheVariants.{Equal, Unequal, Less, AtMost, Greater, AtLeast, In, Plus, Minus, Or, Times, Slash, Div, Mod, And}}}}
 use Rattle.lil_base.specs.declared.request.Request as request
-use Rattle.lil_resolved.specs.Kinds.{Kind, OfWhole, OfTruth, OfCharacter, OfSet, base_of, compared_as, Scalar, Shape, Outline, Scope, locals_at, parameters_at, outermost, part_at, shape_by, shape_at, element_of, led_to, along}
+use Rattle.lil_resolved.specs.Kinds.{Kind, OfWhole, OfTruth, OfCharacter, OfSet, OfProcedure, base_of, compared_as, Scalar, Shape, Signature, Outline, Scope, locals_at, parameters_at, outermost, part_at, shape_by, shape_at, element_of, led_to, along}
 pub use Rattle.lil_resolved.specs.Kinds.{procedure_by}
 
 -- standard functions of one value
@@ -57,9 +57,14 @@ mutual
     Invoke : (p n : ℕ) (k : Kind) (given : Arguments) → Expression
     -- HIGH: the number of the last element of the open array that is a parameter, a variable of the procedure so many levels out
     High : (n x : ℕ) → Expression
+    -- a procedure of the module, by its number, as a value of the procedure type with this number
+    Routine : (p n : ℕ) → Expression
+    -- what the procedure returns, of a kind, that is the value of e
+    InvokeValue : (e : Expression) (k : Kind) (given : Arguments) → Expression
 
   -- an argument: a value, with its parameter's kind; a place for a VAR parameter; all that lies at a place, for an array or a record by value;
-  -- or for an open array, which may be copied, an array with the number of its last element, a string, or the open array that is a parameter
+  -- for an open array, which may be copied, an array with the number of its last element, a string, or the open array that is a parameter; or a
+  -- string for an array of so many characters by value
   pub data Argument : Type 0 where
     ByValue : (k : Kind) (e : Expression) → Argument
     OfPlace : (d : Designator) → Argument
@@ -67,6 +72,7 @@ mutual
     OfArray : (copied : Bool) (d : Designator) (high : ℕ) → Argument
     OfText : (cs : List ℕ) → Argument
     OfOpened : (copied : Bool) (n x : ℕ) → Argument
+    Spelled : (cs : List ℕ) (count : ℕ) → Argument
 
   -- the arguments of a call, from left to right
   pub data Arguments : Type 0 where
@@ -115,6 +121,8 @@ mutual
     Answer : (k : Kind) (e : Expression) → Statement
     -- a call of a procedure, by its number, which is declared so many levels out; those of the module are 0 levels out
     Call : (p n : ℕ) (given : Arguments) → Statement
+    -- a call of the procedure that is the value of e
+    CallValue : (e : Expression) (given : Arguments) → Statement
     -- FOR v := a TO b BY step DO body END, with a variable of a kind
     For : (v : Named) (k : Kind) (a b : Expression) (step : ℤ) (body : Statements) → Statement
     -- WITH d DO body END
@@ -151,8 +159,9 @@ outline_of p = record { around = p.around; locals = p.locals; parameters = p.par
 
 pub record Resolved : Type 0 where
   pub name : List ℕ
-  -- what pointers point to, by the numbers of their types
+  -- what pointers point to, and what procedures of procedure types have, by the numbers of these types
   pub targets : List Shape
+  pub signatures : List Signature
   -- the names of the variables in order, and their shapes
   pub names : List (List ℕ)
   pub variables : List Shape
@@ -162,7 +171,7 @@ pub record Resolved : Type 0 where
 
 -- what names reach in the statements of a procedure, by it and those around it, and in the body, where there are none
 abbrev pub scope_in : Resolved → List ℕ → Scope
-scope_in m chain = outermost m.targets m.variables (map outline_of m.procedures) chain
+scope_in m chain = outermost m.targets m.signatures m.variables (map outline_of m.procedures) chain
 
 -- an operator that compares
 abbrev pub is_relation : TwoOp → Bool
@@ -216,6 +225,8 @@ kind_of (With s k a) = OfSet
 kind_of (WithSpan s k a b) = OfSet
 kind_of (Invoke p n k given) = base_of k
 kind_of (High n x) = OfWhole Cardinal
+kind_of (Routine p n) = OfProcedure n
+kind_of (InvokeValue e k given) = base_of k
 
 -- the shape of a variable, if there is one
 abbrev pub variable_at : Scope → Named → Option Shape

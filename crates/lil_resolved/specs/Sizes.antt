@@ -1,7 +1,7 @@
 -- How much a module takes: words of the expression stack, of frames and of strings, and the bytes of its code; and modules that are small.
-use Rattle.std.specs.Prelude.{ℕ, zero, suc, List, [], ◌∷◌, ◌++◌, Option, Some, None, ◌+◌, max, Bool, true, false, ◌*◌, ◌≤◌, ℤ, length, take, if◌then◌else◌}
+use Rattle.std.specs.Prelude.{ℕ, zero, suc, List, [], ◌∷◌, ◌++◌, Option, Some, None, ◌+◌, ◌-◌, max, Bool, true, false, ◌*◌, ◌≤◌, ℤ, length, take, if◌then◌else◌}
 use Rattle.std.specs.List.{flat_map}
-use Rattle.lil_resolved.specs.Resolved.{Named, OfModule, OfLevel, Argument, ByValue, OfPlace, OfAll, OfArray, OfText, OfOpened, Arguments, NoMore, Also, Statement, Assign, Copy, Text, Change, Member, New, Allocate, Request, If, Case, While, Repeat, Loop, Exit, Halt, Return, Answer, Call, For, Inside, Statements, Empty, Then, Arms, NoElse, Else, Arm, Procedure, Resolved, Designator, Variable, Handed, Along, Held, Field, Element, Follow, Function, Odd, Expression, Constant, Taken, One, Two, Short, Apply, With, WithSpan, Invoke, High, Abs, Cap, Chr, Ord, Val, kind_of, counted_as}
+use Rattle.lil_resolved.specs.Resolved.{Named, OfModule, OfLevel, Argument, ByValue, OfPlace, OfAll, OfArray, OfText, OfOpened, Spelled, Arguments, NoMore, Also, Statement, Assign, Copy, Text, Change, Member, New, Allocate, Request, If, Case, While, Repeat, Loop, Exit, Halt, Return, Answer, Call, CallValue, For, Inside, Statements, Empty, Then, Arms, NoElse, Else, Arm, Procedure, Resolved, Designator, Variable, Handed, Along, Held, Field, Element, Follow, Function, Odd, Expression, Constant, Taken, One, Two, Short, Apply, With, WithSpan, Invoke, High, Routine, InvokeValue, Abs, Cap, Chr, Ord, Val, kind_of, counted_as}
 use Rattle.lil_resolved.specs.Kinds.{Kind, OfWhole, OfCharacter, base_of, compared_as, covers, outside_turns, Shape, Absent, Word, Blank, Join, Row, Address, Opened, all_words}
 use Rattle.lil_base.specs.{declared.operator.{OneOp.OneOp, TwoOp.{TwoOp, TheVariants.{Greater, AtLeast}}}, Words.{Cardinal, Integer}}
 use Rattle.lil_base.specs.declared.operator.OneOp.TheVariants as one
@@ -34,6 +34,8 @@ abbrev mutual
   expression_strings (WithSpan s k a b) = expression_strings s ++ expression_strings a ++ expression_strings b
   expression_strings (Invoke p n k given) = arguments_strings given
   expression_strings (High n x) = []
+  expression_strings (Routine p n) = []
+  expression_strings (InvokeValue e k given) = expression_strings e ++ arguments_strings given
 
   pub argument_strings : Argument → List ℕ
   argument_strings (ByValue k e) = expression_strings e
@@ -42,6 +44,7 @@ abbrev mutual
   argument_strings (OfArray copied d high) = place_strings d
   argument_strings (OfText cs) = words_of cs
   argument_strings (OfOpened copied n x) = []
+  argument_strings (Spelled cs count) = words_of cs
 
   pub arguments_strings : Arguments → List ℕ
   arguments_strings NoMore = []
@@ -67,6 +70,7 @@ abbrev mutual
   statement_strings Return = []
   statement_strings (Answer k e) = expression_strings e
   statement_strings (Call p n given) = arguments_strings given
+  statement_strings (CallValue e given) = expression_strings e ++ arguments_strings given
   statement_strings (For v k a b step body) = expression_strings a ++ expression_strings b ++ body_strings body
   statement_strings (Inside d body) = place_strings d ++ body_strings body
 
@@ -119,6 +123,8 @@ abbrev mutual
   -- what stood on the expression stack is saved until it has returned
   depth (Invoke p n k given) = 1
   depth (High n x) = 1
+  depth (Routine p n) = 1
+  depth (InvokeValue e k given) = 1
 
 -- how many words of the frame the FORs and the WITHs in statements take: three each FOR, and one each WITH
 abbrev mutual
@@ -141,6 +147,7 @@ abbrev mutual
   statement_words Return = 0
   statement_words (Answer k e) = 0
   statement_words (Call p n given) = 0
+  statement_words (CallValue e given) = 0
   statement_words (For v k a b step body) = 3 + body_words body
   statement_words (Inside d body) = 1 + body_words body
 
@@ -254,7 +261,7 @@ abbrev pub handed_size : ℕ → ℕ
 handed_size zero = 3
 handed_size (suc n) = 4
 
--- how many words an argument takes on the expression stack: of what goes by its address, one
+-- how many words an argument takes on the expression stack: of what goes by its address, one, and none of a string that goes to the frame at once
 abbrev pub argument_words : Argument → ℕ
 argument_words (ByValue k e) = 1
 argument_words (OfPlace d) = 1
@@ -262,8 +269,14 @@ argument_words (OfAll d) = 1
 argument_words (OfArray copied d high) = 2
 argument_words (OfText cs) = 2
 argument_words (OfOpened copied n x) = 2
+argument_words (Spelled cs count) = 0
 
--- how many bytes it takes to bring its words to the frame that a call begins
+-- how many bytes it takes to bring so many zeros to the frame that a call begins
+abbrev pub zeros_size : ℕ → ℕ
+zeros_size zero = 0
+zeros_size (suc z) = 14
+
+-- how many bytes it takes to bring the words of an argument there from the expression stack
 abbrev pub push_size : Argument → ℕ
 push_size (ByValue k e) = 1
 push_size (OfPlace d) = 1
@@ -271,6 +284,7 @@ push_size (OfAll d) = 3
 push_size (OfArray copied d high) = 2
 push_size (OfText cs) = 2
 push_size (OfOpened copied n x) = 2
+push_size (Spelled cs count) = 0
 
 -- how many bytes the code of a place, of an expression, and of arguments that go to a frame takes
 abbrev mutual
@@ -294,6 +308,8 @@ abbrev mutual
   size (WithSpan s k a b) = size s + size a + test_size k (kind_of a) + size b + test_size k (kind_of b) + 1
   size (Invoke p n k given) = 9 + pushed_size given
   size (High n x) = handed_size n
+  size (Routine p n) = 3
+  size (InvokeValue e k given) = 7 + size e + pushed_size given
 
   pub argument_size : Argument → ℕ
   argument_size (ByValue k e) = size e + test_size k (kind_of e)
@@ -302,6 +318,7 @@ abbrev mutual
   argument_size (OfArray copied d high) = place_size d + address_size (form_of d) + 3
   argument_size (OfText cs) = 6
   argument_size (OfOpened copied n x) = handed_size n + handed_size n
+  argument_size (Spelled cs count) = 6 + zeros_size (count - length cs)
 
   pub pushed_size : Arguments → ℕ
   pushed_size NoMore = 0
@@ -343,6 +360,7 @@ abbrev mutual
   statement_size Return = 1
   statement_size (Answer k e) = size e + test_size k (kind_of e) + 1
   statement_size (Call p n given) = 6 + pushed_size given
+  statement_size (CallValue e given) = 4 + size e + pushed_size given
   statement_size (For v k a b step body) = size a + size b + align_size k (kind_of a) step + 12 + test_size k (base_of k) + store_size (variable_form v) + body_size body + 5
   statement_size (Inside d body) = place_size d + address_size (form_of d) + 3 + body_size body
 

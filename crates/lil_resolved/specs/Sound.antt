@@ -1,13 +1,13 @@
 -- Sound resolved modules: places have the kinds that their uses say, indexes choose from all elements, operands have their operator's kind, and constants fit theirs.
-use Rattle.std.specs.Prelude.{◌≡◌, ◌≢◌, ℕ, suc, ◌≤◌, nat_le, length, ℤ, pos, negsuc, ◌≤ℤ◌, Bool, true, false, ◌&&◌, ◌||◌, List, [], ◌∷◌, Some, None, slice_get}
+use Rattle.std.specs.Prelude.{◌≡◌, ◌≢◌, ℕ, suc, ◌≤◌, nat_le, length, ℤ, pos, negsuc, ◌≤ℤ◌, Bool, true, false, ◌&&◌, ◌||◌, List, [], ◌∷◌, Option, Some, None, slice_get}
 use Rattle.std.specs.List.{list_all}
 use Rattle.lil_base.specs.{Words.{Cardinal, Integer}, declared.operator.{OneOp.OneOp, TwoOp.{TwoOp, TheVariants.{Equal, Unequal, Less, AtMost, Greater, AtLeast, In, Plus, Minus, Or, Times, Slash, Div, Mod, And}}}}
 use Rattle.lil_base.specs.declared.operator.OneOp.TheVariants as one
 use Rattle.lil_base.specs.declared.request.Request as request
 use Rattle.lil_base.specs.declared.request.Request.TheVariants as r
 pub use Rattle.lil_resolved.specs.Kinds.{is_base, is_ordinal, is_set, is_whole, is_plain, is_element, alike, takes_value, stores_value}
-use Rattle.lil_resolved.specs.Kinds.{Objects, Workspaces, Kind, OfWhole, OfTruth, OfCharacter, OfSet, OfPointer, base_of, numbers, within, is_literal, scalar_of, ordinal_of, Shape, Word, Row, Address, Opened, Scope, with_held, MayCall, result_of, result_here, parameters_of, parameters_at, shape_at, is_there, element_of, count_of, along}
-use Rattle.lil_resolved.specs.Resolved.{Named, variable_at, Designator, Variable, Handed, Along, Held, Field, Element, Follow, Function, Abs, Cap, Chr, Odd, Ord, Val, Expression, Constant, Taken, One, Two, Short, Apply, With, WithSpan, Invoke, High, Label, Argument, ByValue, OfPlace, OfAll, OfArray, OfText, OfOpened, Arguments, NoMore, Also, Statement, Assign, Copy, Text, Change, Member, New, Allocate, Request, If, Case, While, Repeat, Loop, Exit, Halt, Return, Answer, Call, For, Inside, Statements, Empty, Then, Arms, NoElse, Else, Arm, Procedure, Resolved, procedure_by, scope_in, kind_of, right_kind, counted_as, shape_of}
+use Rattle.lil_resolved.specs.Kinds.{Objects, Workspaces, Kind, OfWhole, OfTruth, OfCharacter, OfSet, OfPointer, OfProcedure, is_compared, base_of, numbers, within, is_literal, scalar_of, ordinal_of, Shape, Word, Row, Address, Opened, Scope, with_held, MayCall, MayHold, result_of, result_here, parameters_of, parameters_at, shape_at, is_there, element_of, count_of, along}
+use Rattle.lil_resolved.specs.Resolved.{Named, variable_at, Designator, Variable, Handed, Along, Held, Field, Element, Follow, Function, Abs, Cap, Chr, Odd, Ord, Val, Expression, Constant, Taken, One, Two, Short, Apply, With, WithSpan, Invoke, High, Routine, InvokeValue, Label, Argument, ByValue, OfPlace, OfAll, OfArray, OfText, OfOpened, Spelled, Arguments, NoMore, Also, Statement, Assign, Copy, Text, Change, Member, New, Allocate, Request, If, Case, While, Repeat, Loop, Exit, Halt, Return, Answer, Call, CallValue, For, Inside, Statements, Empty, Then, Arms, NoElse, Else, Arm, Procedure, Resolved, procedure_by, scope_in, kind_of, right_kind, counted_as, shape_of}
 use Rattle.lil_resolved.specs.Sizes.{place_depth, depth}
 
 -- an operator takes operands of this kind, and IN a left one
@@ -19,8 +19,8 @@ takes_one one.Not OfTruth = true
 takes_one one.Not _ = false
 
 abbrev pub takes_two : TwoOp → Kind → Bool
-takes_two Equal k = is_base k
-takes_two Unequal k = is_base k
+takes_two Equal k = is_compared k
+takes_two Unequal k = is_compared k
 takes_two Less k = is_ordinal k
 takes_two AtMost k = is_ordinal k || is_set k
 takes_two Greater k = is_ordinal k
@@ -65,6 +65,7 @@ parameter_of ts (OfAll d) = shape_of ts d
 parameter_of ts (OfArray copied d high) = Opened copied (element_of (shape_of ts d))
 parameter_of ts (OfText cs) = Opened true (Word OfCharacter)
 parameter_of ts (OfOpened copied n x) = Opened copied (along (shape_at (parameters_at ts n) x))
+parameter_of ts (Spelled cs count) = Row count (Word OfCharacter)
 
 abbrev pub parameters_given : Scope → Arguments → List Shape
 parameters_given ts NoMore = []
@@ -73,6 +74,13 @@ parameters_given ts (Also a given) = parameter_of ts a ∷ parameters_given ts g
 -- a parameter is an open array
 abbrev pub IsSoundOpened : Scope → (n x : ℕ) → Type 0
 IsSoundOpened ts n x = (copied : Bool) × (t : Shape) × (slice_get (parameters_at ts n) x ≡ Some (Opened copied t)) × (is_there t ≡ true)
+
+-- the value of an expression is a procedure of a type with these parameters and this result
+pub record IsSoundCallee (ts : Scope) (e : Expression) (parameters : List Shape) (result : Option Kind) : Type 0 where
+  pub number : ℕ
+  pub kind : kind_of e ≡ OfProcedure number
+  pub known : slice_get ts.signatures number ≡ Some (record { parameters = parameters; result = result })
+  pub shallow : depth e ≤ 13
 
 -- what a string holds are characters
 abbrev pub is_character : ℕ → Bool
@@ -106,6 +114,8 @@ abbrev mutual
   IsSoundExpression ts (Invoke p n k given) =
       MayCall ts p n × (result_of (procedure_by ts.procedures p) ≡ Some k) × (parameters_of (procedure_by ts.procedures p) ≡ parameters_given ts given) × AreSoundArguments ts given
   IsSoundExpression ts (High n x) = IsSoundOpened ts n x
+  IsSoundExpression ts (Routine p n) = MayHold ts p n
+  IsSoundExpression ts (InvokeValue e k given) = IsSoundCallee ts e (parameters_given ts given) (Some k) × IsSoundExpression ts e × AreSoundArguments ts given
 
   pub IsSoundArgument : Scope → Argument → Type 0
   IsSoundArgument ts (ByValue k e) = (stores_value k (kind_of e) ≡ true) × (depth e ≤ 13) × IsSoundExpression ts e
@@ -115,6 +125,7 @@ abbrev mutual
       (shape_of ts d ≡ Row (suc high) (element_of (shape_of ts d))) × (is_there (element_of (shape_of ts d)) ≡ true) × (high ≤ 65535) × (place_depth d ≤ 13) × IsSoundPlace ts d
   IsSoundArgument ts (OfText cs) = is_text cs ≡ true
   IsSoundArgument ts (OfOpened copied n x) = IsSoundOpened ts n x
+  IsSoundArgument ts (Spelled cs count) = (is_text cs ≡ true) × (length cs ≤ count) × (count ≤ 65535)
 
   pub AreSoundArguments : Scope → Arguments → Type 0
   AreSoundArguments ts NoMore = Unit {0}
@@ -212,6 +223,7 @@ IsServed (OfAll d) = ⊥
 IsServed (OfArray copied d high) = Unit {0}
 IsServed (OfText cs) = Unit {0}
 IsServed (OfOpened copied n x) = Unit {0}
+IsServed (Spelled cs count) = ⊥
 
 abbrev pub AreServed : Arguments → Type 0
 AreServed NoMore = Unit {0}
@@ -243,6 +255,7 @@ abbrev mutual
   IsSoundStatement ts looping Return = result_here ts ≡ None
   IsSoundStatement ts looping (Answer k e) = (result_here ts ≡ Some k) × IsSoundStored ts e k
   IsSoundStatement ts looping (Call p n given) = MayCall ts p n × (result_of (procedure_by ts.procedures p) ≡ None) × IsGiven ts (parameters_of (procedure_by ts.procedures p)) given
+  IsSoundStatement ts looping (CallValue e given) = IsSoundCallee ts e (parameters_given ts given) None × IsSoundExpression ts e × AreSoundArguments ts given
   IsSoundStatement ts looping (For v k a b step body) = IsSoundVariable ts v k × IsSoundValue ts a k × IsSoundWhole ts b (base_of k) × IsStep step × IsSoundBody ts looping body
   IsSoundStatement ts looping (Inside d body) = IsSoundHeld ts d × IsSoundBody (with_held ts (shape_of ts d)) looping body
 

@@ -4,10 +4,10 @@ use Rattle.lil_base.specs.{declared.operator.{OneOp.OneOp, TwoOp.{TwoOp, TheVari
 use Rattle.lil_resolved.specs.declared.resolved.{RExpr.RExpr, RArgument.TheOpen.{RExpr-F, RMember-F, RSelector-F, ROperation-F, RArgument-F, RPlace-F, RRoot-F}}
 use Rattle.lil_resolved.specs.declared.resolved.RArgument.TheFolds.{map-RExpr, map-RArgument, map-RSelector, map-RMember, fold-roll-RExpr, fold-roll-RMember, fold-roll-RSelector, fold_out-RSelector, fold_out-RMember, fold_out-ROperation, fold_out-RPlace, fold-RExpr, fold-RSelector, fold-RMember, fold-ROperation, fold-RArgument, fold-roll-RArgument, fold-RPlace, fold-RRoot, fold-roll-RRoot, map-RRoot}
 use Rattle.lil_resolved.specs.declared.resolved.{RArgument.TheViews.{roll-RExpr, roll-RMember, roll-RSelector, roll-RArgument, roll-RRoot}, ROperation.{ROperation, out-ROperation}, RPlace.{RPlace, out-RPlace}, RSelector.{RSelector, out-RSelector}, RMember.{RMember, out-RMember}, Membership.Membership, Allocation.Allocation, RKind.RKind}
-use Rattle.lil_resolved.specs.{Kinds.{Kind, Objects, Workspaces, OfWhole, OfTruth, OfCharacter, OfEnumeration, OfSet, OfPointer, OfRange, compared_as, scalar_of, SetOf, Shape, Absent, Word, Row, Address, Opened, all_words, offsets_from, shape_at, fields_of, words}, declared.resolved.RStmt.{RStmt, TheOpen.{RStmt-F, RArm-F, RGuard-F}}}
+use Rattle.lil_resolved.specs.{Kinds.{Kind, Objects, Workspaces, OfWhole, OfTruth, OfCharacter, OfEnumeration, OfSet, OfPointer, OfProcedure, OfRange, compared_as, scalar_of, SetOf, Shape, Absent, Word, Row, Address, Opened, Signature, all_words, offsets_from, shape_at, fields_of, words}, declared.resolved.RStmt.{RStmt, TheOpen.{RStmt-F, RArm-F, RGuard-F}}}
 use Rattle.lil_resolved.specs.declared.resolved.{RStmt.{TheFolds.{map-RStmt, fold-roll-RStmt, fold-roll-RArm, fold-roll-RGuard, fold-RStmt, fold-RArm, fold-RGuard}, TheViews.roll-RStmt}, RGuard.RGuard, RArm.RArm, RBase.RBase, RVariable.RVariable, RNamed.RNamed, RFunction.RFunction, Direction.Direction, RArgument.RArgument}
-use Rattle.lil_resolved.specs.Resolved.{Named, OfModule, OfLevel, Designator, Field, Element, Follow, Expression, Constant, Taken, Apply, With, WithSpan, Assign, Copy, Text, Change, Member, New, Allocate, Request, If, Case, While, Repeat, Loop, Exit, Halt, Return, Answer, Call, For, Inside, Statements, Empty, Then, Arms, Arm, kind_of, Variable, Handed, Along, Held, Function, Abs, Cap, Chr, Odd, Ord, Val, One, Two, Short, Argument, ByValue, OfPlace, OfAll, OfArray, OfText, OfOpened, Arguments, given_in, Invoke, High, Label, NoElse, Else, Procedure, Resolved}
-use Rattle.lil_resolved.specs.{Members.no_members, declared.{resolved.{RRange.RRange, RRoot.RRoot, RPassing.RPassing, ROpening.ROpening, RDeclared.RDeclared, RLabel.RLabel, RHeading.RHeading, RProcedure.RProcedure, RModule.RModule}, shapes.{RField.RField, RShape.RShape}}}
+use Rattle.lil_resolved.specs.Resolved.{Named, OfModule, OfLevel, Designator, Field, Element, Follow, Expression, Constant, Taken, Apply, With, WithSpan, Assign, Copy, Text, Change, Member, New, Allocate, Request, If, Case, While, Repeat, Loop, Exit, Halt, Return, Answer, Call, CallValue, For, Inside, Statements, Empty, Then, Arms, Arm, kind_of, Variable, Handed, Along, Held, Function, Abs, Cap, Chr, Odd, Ord, Val, One, Two, Short, Argument, ByValue, OfPlace, OfAll, OfArray, OfText, OfOpened, Spelled, Arguments, given_in, Invoke, High, Routine, InvokeValue, Label, NoElse, Else, Procedure, Resolved}
+use Rattle.lil_resolved.specs.{Members.no_members, declared.{resolved.{RRange.RRange, RRoot.RRoot, RPassing.RPassing, ROpening.ROpening, RPassed.RPassed, RSignature.RSignature, RDeclared.RDeclared, RLabel.RLabel, RHeading.RHeading, RProcedure.RProcedure, RModule.RModule}, shapes.{RField.RField, RShape.RShape}}}
 use Rattle.lil_resolved.specs.declared.resolved.RExpr.TheVariants as e
 use Rattle.lil_resolved.specs.declared.resolved.RArgument.TheOpen as x
 use Rattle.lil_resolved.specs.declared.resolved.RSelector.TheVariants as l
@@ -38,6 +38,7 @@ base_view (b.Enumeration n) = OfEnumeration n
 base_view b.Set = OfSet
 base_view (b.Pointer n) = OfPointer (Objects n)
 base_view b.Address = OfPointer Workspaces
+base_view (b.Procedure n) = OfProcedure n
 
 abbrev pub ranged_view : Kind → Option RRange → Kind
 ranged_view k None = k
@@ -131,6 +132,8 @@ expression_layer (x.Apply f a) = Apply (function_of f (kind_of a)) a
 expression_layer (x.Set k es) = with_members (kind_view k) empty_set es
 expression_layer (x.Invoke p n k given) = Invoke p n (kind_view k) (given_in given)
 expression_layer (x.High n i) = High n i
+expression_layer (x.Routine p n) = Routine p n
+expression_layer (x.InvokeValue e k given) = InvokeValue e (kind_view k) (given_in given)
 
 abbrev pub selector_layer : RSelector-F Argument Expression (Kind → Expression → Expression) Designator (Designator → Designator) (Expression → Expression) Designator → Designator → Designator
 selector_layer (x.Field i) d = Field d i
@@ -160,6 +163,7 @@ argument_layer (x.All p) = OfAll p
 argument_layer (x.Array o p high) = OfArray (is_copied o) p high
 argument_layer (x.Text cs) = OfText cs
 argument_layer (x.Opened o n i) = OfOpened (is_copied o) n i
+argument_layer (x.Spelled cs count) = Spelled cs count
 
 abbrev pub expression_of : RExpr → Expression
 expression_of = fold-RExpr Argument Expression (Kind → Expression → Expression) Designator (Designator → Designator) (Expression → Expression) Designator argument_layer expression_layer member_layer root_layer selector_layer operation_layer place_layer
@@ -232,6 +236,7 @@ statement_layer o.Halt = Then Halt Empty
 statement_layer o.Return = Then Return Empty
 statement_layer (o.Answer k e) = Then (Answer (kind_view k) (expression_of e)) Empty
 statement_layer (o.Call p n given) = Then (Call p n (arguments_of given)) Empty
+statement_layer (o.CallValue e given) = Then (CallValue (expression_of e) (arguments_of given)) Empty
 statement_layer (o.For v a b step ss) = Then (For (named_view v.named) (variable_kind v) (expression_of a) (expression_of b) step (all_of ss)) Empty
 statement_layer (o.With p ss) = Then (Inside (place_of p) (all_of ss)) Empty
 
@@ -313,6 +318,13 @@ held_by h.ByValue t = t
 held_by h.ByPlace t = Address t
 held_by (h.Open o) t = Opened (is_copied o) t
 
+-- what a parameter of a procedure type holds
+abbrev pub shape_passed : List RShape → RPassed → Shape
+shape_passed ts p = held_by p.passing (shape_at (shapes_of ts) p.shape)
+
+abbrev pub signature_of : List RShape → RSignature → Signature
+signature_of ts s = record { parameters = map (shape_passed ts) s.parameters; result = option_map kind_view s.result }
+
 abbrev pub shape_declared : List RShape → RDeclared → Shape
 shape_declared ts v = held_by v.passing (shape_at (shapes_of ts) v.shape)
 
@@ -326,7 +338,7 @@ abbrev pub heading_of : RProcedure → RHeading
 heading_of p = p.heading
 
 abbrev pub module_of : RModule → Resolved
-module_of m = record { name = m.name; targets = map (shape_at (shapes_of m.shapes)) m.targets; names = map name_of m.variables; variables = map (shape_declared m.shapes) m.variables; procedures = map (procedure_of m.shapes) m.procedures; body = statements_of m.body }
+module_of m = record { name = m.name; targets = map (shape_at (shapes_of m.shapes)) m.targets; signatures = map (signature_of m.shapes) m.signatures; names = map name_of m.variables; variables = map (shape_declared m.shapes) m.variables; procedures = map (procedure_of m.shapes) m.procedures; body = statements_of m.body }
 
 -- the words of the variables of a procedure, from the fifth of its frame on, up to 65,535
 pub record IsMeasuredHeading (ts : List RShape) (h : RHeading) : Type 0 where
@@ -374,8 +386,17 @@ of_text_is cs = ap argument_of (sym (g.rolls-Text cs)) ∙ rolled_argument (x.Te
 pub of_opened_is : (o : ROpening) (n i : ℕ) → argument_of (g.Opened o n i) ≡ OfOpened (is_copied o) n i
 of_opened_is o n i = ap argument_of (sym (g.rolls-Opened o n i)) ∙ rolled_argument (x.Opened o n i)
 
+pub spelled_is : (cs : List ℕ) (count : ℕ) → argument_of (g.Spelled cs count) ≡ Spelled cs count
+spelled_is cs count = ap argument_of (sym (g.rolls-Spelled cs count)) ∙ rolled_argument (x.Spelled cs count)
+
 pub high_is : (n i : ℕ) → expression_of (e.High n i) ≡ High n i
 high_is n i = ap expression_of (sym (e.rolls-High n i)) ∙ rolled_value (x.High n i)
+
+pub routine_is : (p n : ℕ) → expression_of (e.Routine p n) ≡ Routine p n
+routine_is p n = ap expression_of (sym (e.rolls-Routine p n)) ∙ rolled_value (x.Routine p n)
+
+pub invoke_value_is : (a : RExpr) (k : RKind) (given : List RArgument) → expression_of (e.InvokeValue a k given) ≡ InvokeValue (expression_of a) (kind_view k) (arguments_of given)
+invoke_value_is a k given = ap expression_of (sym (e.rolls-InvokeValue a k given)) ∙ rolled_value (x.InvokeValue a k given)
 
 pub taken_is : (p : RPlace) (k : RKind) → expression_of (e.Taken p k) ≡ Taken (place_of p) (kind_view k)
 taken_is p k = ap expression_of (sym (e.rolls-Taken p k)) ∙ rolled_value (x.Taken p k)
@@ -504,6 +525,9 @@ answer_is k e = ap statement_of (sym (s.rolls-Answer k e)) ∙ rolled (o.Answer 
 
 pub call_is : (p n : ℕ) (given : List RArgument) → statement_of (s.Call p n given) ≡ Then (Call p n (arguments_of given)) Empty
 call_is p n given = ap statement_of (sym (s.rolls-Call p n given)) ∙ rolled (o.Call p n given)
+
+pub call_value_is : (a : RExpr) (given : List RArgument) → statement_of (s.CallValue a given) ≡ Then (CallValue (expression_of a) (arguments_of given)) Empty
+call_value_is a given = ap statement_of (sym (s.rolls-CallValue a given)) ∙ rolled (o.CallValue a given)
 
 pub for_is : (v : RVariable) (a b : RExpr) (step : ℤ) (ss : List RStmt)
     → statement_of (s.For v a b step ss) ≡ Then (For (named_view v.named) (variable_kind v) (expression_of a) (expression_of b) step (statements_of ss)) Empty

@@ -6,7 +6,8 @@ use crate::{OneOp, RShape, TwoOp};
 use lil_base::{Boxed, Items, Name, Request, Shared, Text};
 
 /// What values are: numbers of a type of whole numbers, truth values, characters, the constants of an enumeration with so
-/// many of them, sets of numbers from 0 to 15, pointers of the type with this number, or addresses of workspaces.
+/// many of them, sets of numbers from 0 to 15, pointers of the type with this number, addresses of workspaces, or procedures of the procedure type
+/// with this number.
 #[derive(Clone, Copy, PartialEq, Eq)]
 pub enum RBase {
     Cardinal,
@@ -17,6 +18,7 @@ pub enum RBase {
     Set,
     Pointer(usize),
     Address,
+    Procedure(usize),
 }
 
 /// The numbers of a subrange, its ends included.
@@ -85,7 +87,8 @@ pub enum Allocation {
 /// operation in its order on what stands before it. A value that stands at a place is of the place's kind. A set has its
 /// members in order, numbers of a kind. A call of a function has its procedure's number, from 1, how many levels out that is
 /// declared, the kind of its value, and its arguments. HIGH has an open array, by how many levels out its procedure is and its
-/// number among that one's variables.
+/// number among that one's variables. A procedure as a value has its number, and that of the procedure type; a call of the
+/// procedure that is a value has the kind of what it returns, and its arguments.
 #[cycle(value)]
 #[derive(Drop)]
 pub enum RExpr {
@@ -97,6 +100,8 @@ pub enum RExpr {
     Set(RKind, Items<RMember>),
     Invoke(u8, u8, RKind, Items<RArgument>),
     High(u8, usize),
+    Routine(u8, usize),
+    InvokeValue(Boxed<RExpr>, RKind, Items<RArgument>),
 }
 
 /// What an operator does to the value before it: the operator, and its right operand.
@@ -146,8 +151,9 @@ pub enum RMember {
 }
 
 /// An argument: a value, with its parameter's kind; a place for a VAR parameter; all that lies at a place, for an array or a
-/// record by value; or for a parameter that is an open array an array, with the number of its last element, a string, or the
-/// open array that is a parameter, by how many levels out its procedure is and its number among that one's variables.
+/// record by value; for a parameter that is an open array an array, with the number of its last element, a string, or the
+/// open array that is a parameter, by how many levels out its procedure is and its number among that one's variables; or a
+/// string for an array by value, with the number of its characters.
 #[cycle(value)]
 #[derive(Drop)]
 pub enum RArgument {
@@ -157,6 +163,7 @@ pub enum RArgument {
     Array(ROpening, RPlace, u16),
     Text(Shared<Text>),
     Opened(ROpening, u8, usize),
+    Spelled(Shared<Text>, u16),
 }
 
 /// A resolved statement. A place that is stored to has its kind; a copy has its place, and that of what is copied; a string
@@ -164,7 +171,7 @@ pub enum RArgument {
 /// pointer, and the number of its type; ALLOCATE and DEALLOCATE have the place of the address, and the number of words. IF has its conditions in
 /// order, a CASE or an IF without ELSE has none, FOR has its variable, its first value, its last and its step, and WITH
 /// its record. A call has its procedure's number, from 1, how many levels out that is declared, and its arguments; those of the
-/// module are declared 0 levels out.
+/// module are declared 0 levels out. That of a procedure that is a value has the value in their place.
 #[cycle(resolved)]
 #[derive(Drop)]
 pub enum RStmt {
@@ -186,6 +193,7 @@ pub enum RStmt {
     Return,
     Answer(RKind, RExpr),
     Call(u8, u8, Items<RArgument>),
+    CallValue(RExpr, Items<RArgument>),
     For(RVariable, RExpr, RExpr, i16, Items<RStmt>),
     With(RPlace, Items<RStmt>),
 }
@@ -229,6 +237,20 @@ pub enum RPassing {
     Open(ROpening),
 }
 
+/// What a parameter of a procedure type holds, by the number of its shape.
+#[derive(Clone, Copy)]
+pub struct RPassed {
+    pub shape: usize,
+    pub passing: RPassing,
+}
+
+/// What procedures of a procedure type have: their parameters, and the kind of what they return.
+#[derive(Drop)]
+pub struct RSignature {
+    pub parameters: Items<RPassed>,
+    pub result: Option<RKind>,
+}
+
 /// A variable: its name, the words before it in the module's data or its procedure's frame, the number of the shape of what
 /// lies in it, of the place that it leads to or of each element, and which of these it is.
 #[derive(Drop)]
@@ -259,13 +281,14 @@ pub struct RProcedure {
 }
 
 /// A resolved program module: its name, the shapes of its types by their numbers, by the same numbers the shapes to which its
-/// pointer types point, its variables, how many words they take, its procedures by their numbers from 1, and the statements
+/// pointer types point and what procedures of its procedure types have, its variables, how many words they take, its procedures by their numbers from 1, and the statements
 /// of its body.
 #[derive(Drop)]
 pub struct RModule {
     pub name: Name,
     pub shapes: Items<RShape>,
     pub targets: Items<usize>,
+    pub signatures: Items<RSignature>,
     pub variables: Items<RDeclared>,
     pub words: u16,
     pub procedures: Items<RProcedure>,
@@ -275,7 +298,7 @@ pub struct RModule {
 /// The base of the values of an expression: that of a chain's first operand, where all its operators give values of their
 /// operands' kind.
 #[cycle(kinds)]
-#[tactic(auto, using(crate::specs::Chains::chain_kind, crate::specs::Chains::set_kind, crate::specs::Views::invoke_is, crate::specs::Views::high_is, crate::specs::Bases::own_base))]
+#[tactic(auto, using(crate::specs::Chains::chain_kind, crate::specs::Chains::set_kind, crate::specs::Views::invoke_is, crate::specs::Views::high_is, crate::specs::Views::routine_is, crate::specs::Views::invoke_value_is, crate::specs::Bases::own_base))]
 pub fn base(e: &RExpr) -> RBase
     ensures { base_view result ≡ kind_of (expression_of e.now) }
 {
@@ -287,6 +310,8 @@ pub fn base(e: &RExpr) -> RBase
         RExpr::Set(_, _) => RBase::Set,
         RExpr::Invoke(_, _, kind, _) => kind.base,
         RExpr::High(_, _) => RBase::Cardinal,
+        RExpr::Routine(_, number) => RBase::Procedure(*number),
+        RExpr::InvokeValue(_, kind, _) => kind.base,
         RExpr::Chain(first, operations) => {
             if compute_all(operations.as_slice()) {
                 base(first.get())

@@ -160,6 +160,7 @@ module _ {t : Table} {vs : RNamed → Option RVar} {around : List ℕ} {R : Reac
     unfolding suits number
     suited q g (k.Whole z) is nil fine goes h none = absurd (none-some z (sym none))
     suited q g k.Nil is nil fine goes h none = absurd (true≢false (sym h ∙ nil))
+    suited q g (k.Routine r) is nil fine goes h none = cc
     suited q g a is nil fine goes h none = kind_yields P told q g d a f is fine goes h
 
     counting : (a : Kind) → KindTold t a → GoesWith P d a f → is_integer t a ≡ true → number t a ≡ None → Operand b.Integer a
@@ -185,7 +186,7 @@ module _ {t : Table} {vs : RNamed → Option RVar} {around : List ℕ} {R : Reac
         let o : IsOrdinal t s u.0 = ordinal_is t told s u.0 u.1 in
         (o.kind.base, o.ordinal, kind_yields P told s o.kind.base d (k.Of s) f o.base fine goes (same_again (base t s)))
     ordered (k.Open s) fine goes h none = cc
-    ordered (k.Routine s) fine goes h none = absurd fine
+    ordered (k.Routine s) fine goes h none = cc
 
     -- ---- what a function gives
     constant_given : (x : Form) (a : Applied) → IsTest t a → IsGiven d x a

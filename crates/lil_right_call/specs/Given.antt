@@ -2,8 +2,8 @@
 use Rattle.std.proofs.Common.{◌≡◌, ℕ, suc, ◌+◌, ◌≤◌, Bool, true, false, not, ◌||◌, List, slice_get, Option, Some, None, if◌then◌else◌, refl, sym, ap, subst, ◌∙◌, arith, true≢false, inl, inr}
 use Rattle.std.specs.Prelude.{ℤ, pos, negsuc, ◌≤ℤ◌, ◌+ℤ◌, ◌-ℤ◌, ◌==◌, ◌&&◌, nat_le, is_some}
 use Rattle.std.specs.Option.{option_map}
-use Rattle.std.proofs.lemmas.{Int.ints, Option.{none-some, same_Some}, Bool.Decides.nat_tests}
-use Rattle.lil_types.specs.{Types.{Table, char, address, meant, same}, declared.table.{Parameter.Parameter, Span.Span}}
+use Rattle.std.proofs.lemmas.{Int.ints, Option.none-some, Bool.Decides.nat_tests}
+use Rattle.lil_types.specs.{Types.{Table, char, address, process, base, same}, declared.table.{Parameter.Parameter, Span.Span}}
 use Rattle.lil_declared.specs.declared.declared.RVar.{RVar}
 use Rattle.lil_resolved.specs.Kinds as kinds
 use Rattle.lil_resolved.specs.{Kinds.{Shape, Word, Row, Opened, OfCharacter, Scope, OfPointer, Workspaces, nat_of, is_there, element_of, along, shape_by}, Resolved.{Argument, OfArray, OfText, OfOpened, shape_of}, Sizes.depth, Sound.{parameter_of, IsServed, IsSoundArgument, IsSoundStored, IsSoundTarget, IsSoundValue, IsSoundWhole}, Views.{argument_of, of_array_is, of_text_is, of_opened_is, base_view, kind_view, expression_of, place_of}, declared.resolved.{RArgument.RArgument, RBase.RBase, RExpr.RExpr, RKind.RKind, RNamed.RNamed, RPlace.RPlace}}
@@ -13,19 +13,18 @@ use Rattle.lil_shapes.specs.{BaseLaws.{same_sort, kind_base}, Pointers.lies_at, 
 use Rattle.lil_shapes.specs.declared.composites.ArrayParts as shaped
 use Rattle.lil_scope.specs.declared.thing.Kind.{Kind}
 use Rattle.lil_scope.specs.declared.thing.Kind.TheVariants as k
-use Rattle.lil_kinds.specs.{Forms.array_parts, declared.{forms.ArrayParts.ArrayParts, found.{Form.Form, Found.Found, Located.Located}}}
+use Rattle.lil_kinds.specs.{Forms.array_parts, Kinds.assignable, declared.{forms.ArrayParts.ArrayParts, found.{Form.Form, Found.Found, Located.Located}}}
 use Rattle.lil_kinds.specs.declared.found.Form.TheVariants as form
-use Rattle.lil_forms.specs.{Places.located_in, Properties.{Property, Reach, IsHanded, IsArrayFor, IsTextFor, IsOpenFor, value_kind}, Scopes.{Fits, both_left, both_right, has_shape}, Soundness.{soundness, characters_lie, opens_soundly}, Statements.{opening, last_of, array_as, open_given, value_as, value_by, place_given, whole_given, argument_given}, Values.typed}
-use Rattle.lil_call.specs.Passing.{has_elements, is_array_of, is_of, is_open, is_text, is_variable, is_wrong_value, is_wrong_place, is_outside, is_spelled}
-use Rattle.lil_right_type.specs.{Found.{LiesAt, GoesWith, IsFound, ParameterTold, value, place}, Parts.{IsArray, no_kind, array_is}, Right.{IsThere, is_so}, Sound.stored_sound, Typed.{Suits, Stores, either, assignable_stores, stores_suits}, Types.{IsTold, IsOrdinal, meant_is, known_ordinal}}
-use Rattle.lil_right_call.specs.{Functions.number_bounds, Places.{IsVariable, place_is, target_sound}, Wholes.whole_or_spelled}
+use Rattle.lil_forms.specs.{Places.located_in, Properties.{Property, Reach, IsHanded, IsArrayFor, IsTextFor, IsOpenFor, value_kind}, Scopes.{Fits, both_left, both_right, has_shape}, Soundness.{soundness, characters_lie, opens_soundly}, Statements.{opening, last_of, array_as, open_given, spelled_as, value_as, value_by, place_given, whole_given, argument_given}, Values.typed}
+use Rattle.lil_call.specs.Passing.{has_elements, is_array_of, is_of, is_open, is_text, is_variable, is_wrong_value, is_wrong_place, is_outside}
+use Rattle.lil_right_type.specs.{Found.{LiesAt, GoesWith, KindTold, IsFound, ParameterTold, value, place}, Parts.{IsArray, no_kind, array_is, same_types}, Right.{IsThere, is_so}, Sound.stored_sound, Typed.{Suits, Stores, either, assignable_stores, stores_suits}, Types.{IsTold, PassedTold, IsOrdinal, own_base, known_ordinal}, Words.AreMeasured}
+use Rattle.lil_right_call.specs.{Functions.number_bounds, Places.{IsVariable, place_is, target_sound}, Wholes.{characters_are, characters_few, IsSpelled, whole_or_spelled}}
 
 -- what the tests of an argument leave
 pub record IsTaken (t : Table) (p : Parameter) (x : Found) : Type 0 where
   pub value : is_wrong_value t p x.kind ≡ false
   pub place : is_wrong_place t p x.standing x.kind ≡ false
   pub inside : is_outside t p x.kind ≡ false
-  pub spelled : is_spelled t p x.kind ≡ false
 
 abbrev pub opened : Bool → ℕ → Parameter
 opened c s = record { by_place = c; open_array = true; sort = s }
@@ -72,32 +71,64 @@ module _ {t : Table} {vs : RNamed → Option RVar} {around : List ℕ} {R : Reac
   place_there s taken =
       let so = is_so (is_variable x.standing && is_of t s x.kind) taken.place in
       let v : IsVariable P x = place_is P x (is_of t s) (λ n. refl) h (both_left (is_variable x.standing) _ so) (both_right (is_variable x.standing) _ so) in
-      let same : v.sort ≡ s = sym (meant_is t told v.sort) ∙ same_sort (meant t v.sort) (meant t s) (sym (ap (is_of t s) v.kind) ∙ both_right (is_variable x.standing) _ so) ∙ meant_is t told s in
+      let same : v.sort ≡ s = same_types t told v.sort s (sym (ap (is_of t s) v.kind) ∙ both_right (is_variable x.standing) _ so) in
       (v, v.same ∙ same, ap (λ f. place_given (located_in f)) v.form)
+
+  assigned : (s : ℕ) → IsTaken t (value s) x → assignable t s x.kind ≡ true
+  assigned s taken = both_right (not (is_open x.kind)) _ (is_so _ taken.value)
 
   pub stored_given : (s : ℕ) (j : RKind) → kind_at t s ≡ Some j → IsTaken t (value s) x → (y : RExpr) × (argument_given t (value s) x ≡ Some (given.Value j y)) × Stores P j x.depth y
   stored_given s j at taken =
-      let y = there_is (Stores P j x.depth) (typed t s x) (assignable_stores P told s j x at h (both_right (not (is_open x.kind)) _ (is_so _ taken.value)) taken.inside) in
+      let y = there_is (Stores P j x.depth) (typed t s x) (assignable_stores P told s j x at h (assigned s taken) taken.inside) in
       (y.0, ap (λ o. value_by t s o x) at ∙ ap (value_as j) y.1, y.2)
 
   abbrev pub IsArgument : Parameter → Type 0
   IsArgument p = (a : RArgument) × (argument_given t p x ≡ Some a) × IsHanded t P.place P.array P.value p a
+
+  -- an array or a record by value
+  whole_of : (s : ℕ) → kind_at t s ≡ None → composite_at t s ≡ true → (f : Form) → x.form ≡ f → argument_given t (value s) x ≡ whole_given t s f
+  whole_of s plain composite f is = ap (λ o. value_by t s o x) plain ∙ ap (λ c. if c then whole_given t s x.form else None) composite ∙ ap (whole_given t s) is
 
   value_argument : (s : ℕ) (j : RKind) → kind_at t s ≡ Some j → IsTaken t (value s) x → IsArgument (value s)
   value_argument s j at taken =
       let y = stored_given s j at taken in
       (given.Value j y.0, y.1, inl (record { kind = j; value = y.0; is = refl; by_value = refl; closed = refl; at = at; stores = y.2.0; shallow = omega (arith, h.few, y.2.1); good = y.2.2 }))
 
-  whole_argument : (s : ℕ) → kind_at t s ≡ None → lies_at t s ≡ true → IsTaken t (value s) x → IsArgument (value s)
-  whole_argument s none alive taken =
-      let composite : composite_at t s ≡ true = ap (λ o. is_some o || composite_at t s) (sym none) ∙ alive in
-      elim (whole_or_spelled P told s composite x.depth x.kind x.form h.kind h.form (both_right (not (is_open x.kind)) _ (is_so _ taken.value))) [
+  -- a string for an array of characters, which are no more than words
+  spelled_argument : AreMeasured t → (s : ℕ) (none : (base t s ≡ s) × (base_at t s ≡ None)) → kind_at t s ≡ None → composite_at t s ≡ true → IsSpelled P told s none x.kind x.form → IsArgument (value s)
+  spelled_argument measured s none plain composite v =
+      let a = characters_are t told s v.characters.length v.fits in
+      let few : a.count ≤ 65535 = characters_few t measured s v.characters.length a in
+      let fit : nat_le a.count 65535 ≡ true = grind (arith, nat_tests, few) in (
+        given.Spelled v.text a.count,
+        whole_of s plain composite (form.Text v.text) v.is ∙ ap (spelled_as v.text) a.many ∙ ap (λ c. if c then Some (given.Spelled v.text a.count) else None) fit,
+        inr (inr (inr (inr (inr (inr (record {
+          text = v.text;
+          count = a.count;
+          is = refl;
+          by_value = refl;
+          closed = refl;
+          parts = a.parts;
+          array = a.array;
+          element = a.element;
+          many = a.many;
+          holds = subst (λ n. n ≤ a.count) (sym v.holds_it.0) a.fits;
+          few = few;
+          told = v.holds_it.1;
+        })))))),
+      )
+
+  whole_argument : AreMeasured t → (s : ℕ) → kind_at t s ≡ None → lies_at t s ≡ true → IsTaken t (value s) x → IsArgument (value s)
+  whole_argument measured s plain alive taken =
+      let composite : composite_at t s ≡ true = ap (λ o. is_some o || composite_at t s) (sym plain) ∙ alive in
+      let none = no_kind t told s composite in
+      elim (whole_or_spelled P told s none x.depth x.kind x.form h.kind h.form (assigned s taken)) [
         | inl v ↦ (
           given.All v.at.place,
-          ap (λ o. value_by t s o x) none ∙ ap (λ c. if c then whole_given (located_in x.form) else None) composite ∙ ap (λ f. whole_given (located_in f)) v.is,
+          whole_of s plain composite (form.Located v.at) v.is,
           inr (inr (inl (record { at = v.at; is = refl; by_value = refl; closed = refl; sort = v.lies.sort; shallow = omega (arith, h.few, v.lies.deep); good = v.lies.good }))),
         )
-        | inr v ↦ absurd (true≢false (sym (λ i. is_text (v.its i) && composite i) ∙ taken.spelled))
+        | inr v ↦ spelled_argument measured s none plain composite v
       ]
 
   place_argument : (s : ℕ) → IsTaken t (place s) x → IsArgument (place s)
@@ -105,17 +136,14 @@ module _ {t : Table} {vs : RNamed → Option RVar} {around : List ℕ} {R : Reac
       let v = place_there s taken in
       (given.Place v.0.at.place, v.2, inr (inl (record { at = v.0.at; is = refl; by_place = refl; closed = refl; sort = v.1; shallow = v.0.deep; good = v.0.good })))
 
-  by_value : (s : ℕ) → lies_at t s ≡ true → IsTaken t (value s) x → IsArgument (value s)
-  by_value s alive taken = by (kind_at t s) refl
+  by_value : AreMeasured t → (s : ℕ) → lies_at t s ≡ true → IsTaken t (value s) x → IsArgument (value s)
+  by_value measured s alive taken = by (kind_at t s) refl
     where
       by : (o : Option RKind) → kind_at t s ≡ o → IsArgument (value s)
-      by None none = whole_argument s none alive taken
+      by None plain = whole_argument measured s plain alive taken
       by (Some j) at = value_argument s j at taken
 
   -- ---- open arrays
-  same_type : (n s : ℕ) → same t n s ≡ true → n ≡ s
-  same_type n s is = sym (meant_is t told n) ∙ same_sort (meant t n) (meant t s) is ∙ meant_is t told s
-
   -- an array of elements of a type
   array_argument : (c : Bool) (s n : ℕ) (p : ArrayParts) (q : Located) → x.form ≡ form.Located q → LiesAt P n x.depth q → array_parts t n ≡ Some p → same t p.element s ≡ true → IsArgument (opened c s)
   array_argument c s n p q is lies at of =
@@ -132,7 +160,7 @@ module _ {t : Table} {vs : RNamed → Option RVar} {around : List ℕ} {R : Reac
           opens = refl;
           parts = parts;
           array = ap (array_at t) lies.sort ∙ (array_is t told n p at).at;
-          element = same_type p.element s of;
+          element = same_types t told p.element s of;
           count = count;
           few = last.few;
           shallow = omega (arith, h.few, lies.deep);
@@ -159,8 +187,8 @@ module _ {t : Table} {vs : RNamed → Option RVar} {around : List ℕ} {R : Reac
   )
   open_by false s (k.Chars d) _ is goes so = absurd goes
   open_by c s (k.Open n) (form.Open o) is goes so =
-      let of : n ≡ s = elim (either (same t n s) _ so) [ inl e ↦ same_type n s e | inr e ↦ absurd (no_text c (s == char) e) ] in
-      (given.Opened (opening c) o.levels o.number, ap (open_given t (opening c)) is, inr (inr (inr (inr (inr (record { at = o; is = refl; opens = refl; sort = goes.sort ∙ of; good = goes.good }))))))
+      let of : n ≡ s = elim (either (same t n s) _ so) [ inl e ↦ same_types t told n s e | inr e ↦ absurd (no_text c (s == char) e) ] in
+      (given.Opened (opening c) o.levels o.number, ap (open_given t (opening c)) is, inr (inr (inr (inr (inr (inl (record { at = o; is = refl; opens = refl; sort = goes.sort ∙ of; good = goes.good })))))))
   open_by c s (k.Open n) _ is goes so = absurd goes
   open_by c s _ f is goes so = absurd (no_text c (s == char) so)
 
@@ -172,17 +200,45 @@ module _ {t : Table} {vs : RNamed → Option RVar} {around : List ℕ} {R : Reac
       let so = is_so (is_variable x.standing && is_array_of t s x.kind) taken.place in
       open_by true s x.kind x.form refl h.form (ap (λ c. c || false) (both_right (is_variable x.standing) (is_array_of t s x.kind) so))
 
-  pub argument_there : (p : Parameter) → ParameterTold t p → IsTaken t p x → IsArgument p
-  argument_there p lies taken = by p.by_place p.open_array refl refl
+  pub argument_there : AreMeasured t → (p : Parameter) → ParameterTold t p → IsTaken t p x → IsArgument p
+  argument_there measured p lies taken = by p.by_place p.open_array refl refl
     where
       one : (q : Parameter) → p ≡ q → (IsTaken t q x → IsArgument q) → IsArgument p
       one q same f = subst IsArgument (sym same) (f (subst (λ (q : Parameter). IsTaken t q x) same taken))
 
       by : (c o : Bool) → p.by_place ≡ c → p.open_array ≡ o → IsArgument p
       by true false is opens = one (place p.sort) (λ i. record { by_place = is i; open_array = opens i; sort = p.sort }) (place_argument p.sort)
-      by false false is opens = one (value p.sort) (λ i. record { by_place = is i; open_array = opens i; sort = p.sort }) (by_value p.sort lies)
+      by false false is opens = one (value p.sort) (λ i. record { by_place = is i; open_array = opens i; sort = p.sort }) (by_value measured p.sort lies)
       by true true is opens = one (opened true p.sort) (λ i. record { by_place = is i; open_array = opens i; sort = p.sort }) (open_place p.sort)
       by false true is opens = one (opened false p.sort) (λ i. record { by_place = is i; open_array = opens i; sort = p.sort }) (open_argument p.sort)
+
+  -- ---- nothing is handed over for a PROCESS
+  process_assigned : assignable t process x.kind ≡ true → ⊥
+  process_assigned so = elim (whole_or_spelled P told process (own_base t told process refl, refl) x.depth x.kind x.form h.kind h.form so) [
+    | inl v ↦ true≢false (sym v.filled)
+    | inr v ↦ none-some _ (characters_are t told process v.characters.length v.fits).array
+  ]
+
+  process_elements : (a : Kind) → KindTold t a → is_array_of t process a ≡ true → ⊥
+  process_elements (k.Of n) fine so = by (array_parts t n) refl so
+    where
+      by : (o : Option ArrayParts) → array_parts t n ≡ o → has_elements t process o ≡ true → ⊥
+      by None at so = cc
+      by (Some p) at so = true≢false (sym (ap (lies_at t) (sym (same_types t told p.element process so)) ∙ (array_is t told n p at).element))
+  process_elements (k.Open n) fine so = true≢false (sym (ap (lies_at t) (sym (same_types t told n process so)) ∙ fine))
+  process_elements _ fine so = cc
+
+  no_process : (c o : Bool) → IsTaken t (record { by_place = c; open_array = o; sort = process }) x → ⊥
+  no_process true false taken =
+      let v = place_there process taken in
+      true≢false (sym (ap (lies_at t) (sym (sym v.0.same ∙ v.1)) ∙ subst (KindTold t) v.0.kind h.kind))
+  no_process false false taken = process_assigned (assigned process taken)
+  no_process true true taken = process_elements x.kind h.kind (both_right (is_variable x.standing) (is_array_of t process x.kind) (is_so (is_variable x.standing && is_array_of t process x.kind) taken.place))
+  no_process false true taken = process_elements x.kind h.kind (elim (either (is_array_of t process x.kind) false (is_so _ taken.value)) [ inl e ↦ e | inr e ↦ absurd (true≢false (sym e)) ])
+
+  pub passed_lies : (p : Parameter) → PassedTold t p → IsTaken t p x → ParameterTold t p
+  passed_lies p (inl lies) taken = lies
+  passed_lies p (inr is) taken = absurd (no_process p.by_place p.open_array (subst (λ n. IsTaken t (record { by_place = p.by_place; open_array = p.open_array; sort = n }) x) is taken))
 
 -- ---- what resident procedures are handed
 module _ {t : Table} {vs : RNamed → Option RVar} {around : List ℕ} {R : Reach} {ts : Scope} (fits : Fits t vs around R ts) where
@@ -230,7 +286,8 @@ module _ {t : Table} {vs : RNamed → Option RVar} {around : List ℕ} {R : Reac
     string_handed a (inr (inr (inl h))) = absurd (true≢false h.closed)
     string_handed a (inr (inr (inr (inl h)))) = array_string a h
     string_handed a (inr (inr (inr (inr (inl h))))) = text_string a h
-    string_handed a (inr (inr (inr (inr (inr h))))) = open_string a h
+    string_handed a (inr (inr (inr (inr (inr (inl h)))))) = open_string a h
+    string_handed a (inr (inr (inr (inr (inr (inr h)))))) = absurd (true≢false h.closed)
 
     module _ (x : Found) (h : IsFound P x) where
       pub string_there : IsTaken t (opened false char) x → (a : RArgument) × (argument_given t (opened false char) x ≡ Some a) × IsString a

@@ -1,6 +1,6 @@
 -- Standard procedures of told arguments: they are sound statements.
 use Rattle.std.proofs.Common.{◌≡◌, ℕ, suc, ◌≤◌, Bool, true, false, not, List, [], ◌∷◌, length, Option, Some, None, IfSome, if◌then◌else◌, refl, sym, ap, subst, ◌∙◌, arith, true≢false, inl, inr}
-use Rattle.std.specs.Prelude.{pos, ◌==◌, ◌&&◌, max, is_none}
+use Rattle.std.specs.Prelude.{pos, ◌==◌, ◌&&◌, ◌||◌, max, is_none}
 use Rattle.std.proofs.lemmas.{Option.same_Some, Bool.{not-true, or_parts, Decides.nat_tests}}
 use Rattle.lil_base.specs.declared.fault.Place.{Place}
 use Rattle.lil_types.specs.{Types.{Table, integer, cardinal, base}, declared.table.Span.Span}
@@ -8,7 +8,7 @@ use Rattle.lil_declared.specs.declared.{declared.RVar.RVar, standard.Standard.St
 use Rattle.lil_declared.specs.declared.standard.Standard.TheVariants as standard
 use Rattle.lil_report.specs.Told.{Row}
 use Rattle.lil_resolved.specs.Kinds as kinds
-use Rattle.lil_resolved.specs.{Bases.own_base, Kinds.{OfWhole, Scope, compared_as, is_pointer, is_there, shape_at, stores_value}, Resolved.shape_of, Views.{base_view, place_of, assign_is, change_is, member_changed_is, new_is, halt_is}}
+use Rattle.lil_resolved.specs.{Bases.own_base, Kinds.{OfWhole, Scope, compared_as, is_pointer, is_procedure, is_there, shape_at, stores_value}, Resolved.shape_of, Views.{base_view, place_of, assign_is, change_is, member_changed_is, new_is, halt_is}}
 use Rattle.lil_resolved.specs.declared.resolved.{Direction.{Direction, TheVariants.{Up, Down}}, Membership.{Membership, TheVariants.{Joins, Leaves}}, RBase.RBase, RExpr.RExpr, RNamed.RNamed, RStmt.RStmt}
 use Rattle.lil_resolved.specs.declared.resolved.RBase.TheVariants as b
 use Rattle.lil_resolved.specs.declared.resolved.RStmt.TheVariants as s
@@ -16,7 +16,7 @@ use Rattle.lil_shapes.specs.{BaseLaws.same_sort, Bases.{plain, base_at}, ListLaw
 use Rattle.lil_scope.specs.declared.thing.Kind.{Kind}
 use Rattle.lil_scope.specs.declared.thing.Kind.TheVariants as k
 use Rattle.lil_kinds.specs.{Forms.{span_of, target}, Kinds.{is_ordinal, suits, compatible}, declared.found.Found.Found}
-use Rattle.lil_forms.specs.{Properties.{Property, Reach}, Scopes.Fits, Soundness.soundness, StatementSound.{StatementSound, made_sound}, Values.{constant, typed, typed_by}}
+use Rattle.lil_forms.specs.{Properties.{Property, Reach}, Scopes.Fits, Soundness.soundness, StatementSound.{StatementSound, made_sound}, Values.{constant, routine_in, typed, typed_by}}
 use Rattle.lil_forms.specs.Places.{located_in}
 use Rattle.lil_forms.specs.Statements.{changed_by, changed_with, changed, changed_at, changed_by_one, turned_by, turned_in, turned_at, turned, created_as, created_at, created, disposed_at, disposed}
 use Rattle.lil_call.specs.{declared.call.Argument.Argument, Passing.is_variable}
@@ -44,10 +44,11 @@ counted_is t n k is = by (n == integer) refl k is
     by false e b.Integer is = absurd (grind (arith, nat_tests, e, whole_at t n b.Integer is refl))
     by false e _ is = refl
 
--- they are no pointers
-no_pointer : (k : kinds.Kind) → kinds.is_ordinal k ≡ true → not (is_pointer k) ≡ true
-no_pointer (kinds.OfPointer to) h = h
-no_pointer _ h = refl
+-- they are no pointers and no procedures
+no_reference : (k : kinds.Kind) → kinds.is_ordinal k ≡ true → not (is_pointer k || is_procedure k) ≡ true
+no_reference (kinds.OfPointer to) h = h
+no_reference (kinds.OfProcedure n) h = h
+no_reference _ h = refl
 
 -- a value of a base is one of a type with this base
 typed_base : (t : Table) (n : ℕ) (a : Found) → base t (base t n) ≡ base t n → typed t (base t n) a ≡ typed t n a
@@ -57,6 +58,7 @@ typed_base t n a own = by a.kind
     by : (c : Kind) → typed_by t (base t n) c a.form ≡ typed_by t n c a.form
     by (k.Whole z) = ap (λ m. constant (base_at t m) z) own
     by k.Nil = ap (λ m. constant (base_at t m) (pos 0)) own
+    by (k.Routine r) = ap (λ m. routine_in m a.form) own
     by _ = refl
 
 -- what the tests of a variable, of the operand beside it, and of their number leave
@@ -86,7 +88,7 @@ module _ {t : Table} {vs : RNamed → Option RVar} {around : List ℕ} {R : Reac
     change_sound : (way : Direction) (u : Span) (o : IsOrdinal t v.sort u) (d : ℕ) (z : RExpr) → d ≤ 12 → Yields P (counted_base o.kind.base) d z → StatementSound ts looping (s.Change way v.at.place o.kind z)
     change_sound way u o d z few h = made_sound ts looping _ _ (change_is way v.at.place o.kind z) (
       target_sound fits x v o.kind o.at,
-      ap (λ k. not (is_pointer k)) (own_base o.kind) ∙ no_pointer (base_view o.kind.base) o.ordinal,
+      ap (λ k. not (is_pointer k || is_procedure k)) (own_base o.kind) ∙ no_reference (base_view o.kind.base) o.ordinal,
       alone fits _ d z few (h.0 ∙ (counts t o.kind.base).1 ∙ ap (λ k. OfWhole (compared_as k)) (sym (own_base o.kind))) h.1 h.2,
     )
 
@@ -144,7 +146,7 @@ module _ {t : Table} {vs : RNamed → Option RVar} {around : List ℕ} {R : Reac
         let nil = constant_yields P j (pos 0) 12 refl in
         subst (λ c. IsDone (disposed_at c)) (sym (cell_is P x v (plain j) p.kind)) (made_sound ts looping _ _ (assign_is v.at.place (plain j) _) (
           target_sound fits x v (plain j) p.kind,
-          record { stores = ap (stores_value (base_view j)) nil.0 ∙ same_again v.sort; whole = alone fits _ 12 _ (omega arith) refl nil.1 nil.2 },
+          record { stores = ap (stores_value (base_view j)) nil.0 ∙ (λ i. same_again v.sort i || false); whole = alone fits _ 12 _ (omega arith) refl nil.1 nil.2 },
         ))
 
   -- ---- calls

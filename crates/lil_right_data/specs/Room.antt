@@ -7,7 +7,7 @@ use Rattle.lil_declared.specs.declared.declared.{Mode.Mode, RVar.RVar}
 use Rattle.lil_resolved.specs.declared.resolved.RPassing.TheVariants.{ByValue}
 use Rattle.lil_resolved.specs.{Kinds.{Shape, all_words}, Resolved.Procedure, Sizes.{body_strings, procedures_strings, module_strings}, Views.{held_by, statements_of}, declared.resolved.RStmt.RStmt}
 use Rattle.lil_layout.specs.{Data.{variable_words, text_words, data_words}}
-use Rattle.lil_shapes.specs.{ListLaws.AllFine, Measured.variable_name, Pointers.{targets, lies_at}, Shaping.{all_some, there, passing_of, lying, variables_by, shapes}}
+use Rattle.lil_shapes.specs.{ListLaws.AllFine, Measured.variable_name, Pointers.{targets, lies_at}, Signatures.signatures, Shaping.{all_some, there, passing_of, lying, variables_by, shapes}}
 use Rattle.lil_right_type.specs.{Homes.{IsPlain}, Types.IsTold, Words.AreMeasured}
 use Rattle.lil_right_data.specs.Shapes.{AreSized, Fits, fine_all, all_there, within_so, shapes_there, lies_shape}
 
@@ -54,6 +54,6 @@ module _ (t : Table) (told : IsTold t) (measured : AreMeasured t) where
 
 -- the module of these variables, of procedures with these bodies, and of statements
 pub room : (t : Table) (vs : List RVar) (n : List ℕ) (of ts : List Shape) (ps : List Procedure) (bodies : List (Option (List RStmt))) (ss : List RStmt) → all_words ts ≤ sum_by (variable_words t) vs → length (procedures_strings ps) ≡ sum_by text_words bodies → data_words t vs bodies (Some ss) ≤ 32000
-    → all_words ts + length (module_strings (record { name = n; targets = targets t of; names = map variable_name vs; variables = ts; procedures = ps; body = statements_of ss })) ≤ 32000
+    → all_words ts + length (module_strings (record { name = n; targets = targets t of; signatures = signatures t of; names = map variable_name vs; variables = ts; procedures = ps; body = statements_of ss })) ≤ 32000
 unfolding data_words
 room t vs n of ts ps bodies ss low strings few = omega (arith, few, low, strings, length-append (body_strings (statements_of ss)) (procedures_strings ps))

@@ -43,7 +43,7 @@ module _ (e : Env) (h : Declared e) where
   kind_meant d k.Nil f is told goes = absurd (true≢false (sym is))
   kind_meant d (k.Of s) f is told goes = absurd (true≢false (sym is))
   kind_meant d (k.Open s) f is told goes = absurd (true≢false (sym is))
-  kind_meant d (k.Routine s) f is told goes = absurd told
+  kind_meant d (k.Routine s) f is told goes = absurd (true≢false (sym is))
 
 module _ (e : Env) (f : Form) (kind : Kind) where
   same_types : (if_constant e f kind).0.types ≡ e.types

@@ -11,7 +11,7 @@ use Rattle.lil_scope.specs.declared.thing.Thing.TheVariants as thing
 use Rattle.lil_resolved.specs.declared.resolved.RBase.TheVariants as b
 use Rattle.lil_shapes.specs.ListLaws.{AllFine}
 use Rattle.lil_interfaces.specs.{declared.surface.{Interface.Interface, Exported.Exported}, Moving.{moved, moved_parameter, moved_kind, moved_form, seen_by, with_type, with_types, with_name, with_names}, Standard.known, Imports.filled}
-use Rattle.lil_right_type.specs.{Types.IsTold, Words.AreMeasured, Found.{signature, ThingTold}, Homes.{Allowed, bound_many}}
+use Rattle.lil_right_type.specs.{Types.{IsTold, PassedTold}, Words.AreMeasured, Found.{signature, ThingTold}, Homes.{Allowed, bound_many}}
 use Rattle.lil_right_sort.specs.Growth.{all_then, Few, few_before, Grown, grown_same, grown_more, grown_kept, PartsTold, added_grown, added_entry, added_told, entry_below, entry_shape, shape_parameters, IsIn, Declared, declared_kept, bound_declared}
 use Rattle.lil_right_decl.specs.Shown.{IsHeading, IsResident, Shown}
 
@@ -20,7 +20,7 @@ AreTold t = IsTold t × AreMeasured t
 
 -- ---- types
 -- a procedure type more, where there is room
-module _ (t : Table) (o : Origin) (ps : List Parameter) (form : TypeForm) (heading : form ≡ Procedure ps None) (room : length t < 4294967279) where
+module _ (t : Table) (o : Origin) (ps : List Parameter) (form : TypeForm) (heading : form ≡ Procedure ps None) (passed : AllFine (PassedTold t) ps) (room : length t < 4294967279) where
   facts : next_facts t form ≡ Some (types.plain (next t))
   facts =
       let room : nat_lt (length t) 4294967279 ≡ true = grind (arith, nat_tests) in
@@ -33,7 +33,7 @@ module _ (t : Table) (o : Origin) (ps : List Parameter) (form : TypeForm) (headi
   heading_length = ap (λ f. length (with_facts t o form f)) facts ∙ length_push t _
 
   heading_told : Few (added t o form) → AreTold t → AreTold (added t o form)
-  heading_told few told = added_told t o form told.0 told.1 (subst (PartsTold t) (sym heading) tt) few
+  heading_told few told = added_told t o form told.0 told.1 (subst (PartsTold t) (sym heading) (passed, tt)) few
 
 -- a table u is t, where s types stood before, with the types of an interface at its end
 record IsEntered (s : ℕ) (t u : Table) (es : Table) : Type 0 where
@@ -50,13 +50,13 @@ types_entered m s t (e ∷ es) all room =
     let o : Origin = record { «module» = m; number = e.origin.number } in
     let u : Table = added t o form in
     let fits : length t < 4294967279 = omega arith in
-    let longer : length u ≡ length t + 1 = heading_length t o all.0.0 form (all.0.1 s) fits in
+    let longer : length u ≡ length t + 1 = heading_length t o all.0.0 form (all.0.1 s) (all.0.2 t) fits in
     let rest : IsEntered s u (with_types m s u es) es = types_entered m s u es all.1 (omega arith) in
-    let first = added_entry t o form (next t) (heading_number t o all.0.0 form (all.0.1 s) fits) in
+    let first = added_entry t o form (next t) (heading_number t o all.0.0 form (all.0.1 s) (all.0.2 t) fits) in
     record {
       grown = grown_more t u (with_types m s u es) (added_grown t o form) rest.grown;
       count = let count = rest.count in omega arith;
-      told = λ few told. rest.told few (heading_told t o all.0.0 form (all.0.1 s) fits (few_before u _ rest.grown few) told);
+      told = λ few told. rest.told few (heading_told t o all.0.0 form (all.0.1 s) (all.0.2 t) fits (few_before u _ rest.grown few) told);
       at = at u rest longer (_, rest.grown (next t) _ first.1, refl);
     }
   where

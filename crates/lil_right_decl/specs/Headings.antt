@@ -1,29 +1,27 @@
 -- Headings in which no test finds a fault: a procedure with its parameters, and what is declared inside of it.
-use Rattle.std.proofs.Common.{◌≡◌, ℕ, ◌+◌, ◌<◌, Bool, true, false, List, [], ◌∷◌, ◌++◌, length, slice_get, Option, Some, None, IfSome, if◌then◌else◌, refl, sym, ap, subst, ◌∙◌, ⊎_elim, arith, true≢false, length-append}
-use Rattle.std.specs.Prelude.{is_none, is_some, ◌||◌}
+use Rattle.std.proofs.Common.{◌≡◌, ℕ, ◌+◌, ◌<◌, Bool, true, false, List, [], ◌∷◌, ◌++◌, length, slice_get, Option, Some, None, IfSome, if◌then◌else◌, refl, sym, ap, subst, ◌∙◌, inl, ⊎_elim, arith, true≢false, length-append}
+use Rattle.std.specs.Prelude.{is_none}
 use Rattle.std.proofs.lemmas.{Bool.Decides.nat_tests, List.length_push, Option.slice_get_within}
 use Rattle.lil_text.specs.declared.tree.{Qualident.Qualident}
 use Rattle.lil_language.specs.declared.{tree.Stmt.Stmt, unit.{Heading.Heading}}
-use Rattle.lil_types.specs.{Types.{Table, entry}, Adding.{next, own, added, added_number}, declared.table.{Facts.Facts, Parameter.Parameter, TypeEntry.TypeEntry, TypeForm.TypeForm}}
+use Rattle.lil_types.specs.{Types.{Table, entry}, Adding.{next, own, added, added_number}, declared.table.{Facts.Facts, Parameter.Parameter, TypeForm.TypeForm}}
 use Rattle.lil_types.specs.declared.table.TypeForm.TheVariants as form
 use Rattle.lil_declared.specs.declared.declared.{RProc.RProc, RVar.RVar}
-use Rattle.lil_base.specs.declared.fault.Place.{Place}
 use Rattle.lil_report.specs.Told.{Row, after, walk}
-use Rattle.lil_resolved.specs.declared.resolved.RKind.{RKind}
-use Rattle.lil_kinds.specs.Forms.{form_in, is_form, of_form, shape, is_record_form, is_record, array_of, array_parts, parameters, result}
-use Rattle.lil_shapes.specs.{Bases.{kind_at, is_composite, composite_by, composite_at}, ListLaws.AllFine, Pointers.lies_at, ShapeSound.{at_end, earlier}}
+use Rattle.lil_kinds.specs.Forms.{parameters, result}
+use Rattle.lil_shapes.specs.{ListLaws.AllFine, Pointers.lies_at, ShapeSound.{at_end, earlier}}
 use Rattle.lil_forms.specs.Scopes.{fine_more}
-use Rattle.lil_scope.specs.{Names.{Names, look_in, inner_or, block_by, block_at, find_in, bound, bound_at, bind_at, with_local, locals_in, inside, entered, outside, level, chain}, declared.{env.Env.Env, thing.{Entry.Entry, Thing.Thing, Variable.Variable}}}
+use Rattle.lil_scope.specs.{Names.{Names, look_in, bound_at, bind_at, locals_in, inside, entered, outside}, declared.{env.Env.Env, thing.{Entry.Entry, Thing.Thing, Variable.Variable}}}
 use Rattle.lil_scope.specs.declared.thing.Thing.TheVariants as thing
 use Rattle.lil_scope.specs.Names as names
 use Rattle.lil_check_value.specs.{Looks.{type_named}}
-use Rattle.lil_check_type.specs.{declared.{named.NamedType.{NamedType, TheVariants.{Absent, Given, Faulty}}, routines.Parameters.Parameters}, Made.{Made, type_node, form_node}, Records.{is_structure, no_parameters, result_node, result_means, procedure_form}}
+use Rattle.lil_check_type.specs.{declared.{named.NamedType.{NamedType, TheVariants.{Absent, Given, Faulty}}, routines.Parameters.Parameters}, Made.{Made, type_node, form_node}, Records.{no_parameters, result_node, result_means, procedure_form}}
 use Rattle.lil_check_decl.specs.{Decls.{Means, procedure_means}, Headings.{Headed, section_step, home_at, procedure_thing, with_procedure, numbered_node, named_means, heading_means}}
 use Rattle.lil_check_stmt.specs.Texts.{Texts}
-use Rattle.lil_right_type.specs.{Right.{Clear, Right, after_right, clear_left, clear_right}, Types.{IsTold, meant_is}, Found.{ParameterTold, ResultTold, HeadingTold, AreHeaded}, Homes.{IsHome, OnPath, IsParameter, Longer, last_locals, homed_procedure, stands_stays, stands_inside}}
+use Rattle.lil_right_type.specs.{Right.{Clear, Right, after_right, clear_left, clear_right}, Types.PassedTold, Found.{ParameterTold, ResultTold, HeadingTold, AreHeaded}, Homes.{IsParameter, Longer, last_locals, homed_procedure, stands_stays, stands_inside}}
 use Rattle.lil_right_type.specs.Homes as homes
 use Rattle.lil_right_value.specs.Names.{Lies, Told, look_is, bound_at_is}
-use Rattle.lil_right_sort.specs.{Growth.{all_then, fine_at, Few, few_before, added_grown, grown_kept, added_entry, entry_below, entry_shape, parameter_stays, result_stays, shape_parameters, last_there, IsIn, AllLie, AllHeaded, HasHeading, Declared, declared_added}, Simple.{Begun, walk_keeps}}
+use Rattle.lil_right_sort.specs.{Growth.{all_then, fine_at, Few, few_before, added_grown, grown_kept, added_entry, entry_below, entry_shape, parameter_stays, result_stays, shape_parameters, last_there, IsIn, AllLie, AllHeaded, HasHeading, Declared, declared_added}, Routines.{IsResult, result_right}, Simple.{Begun, walk_keeps}}
 use Rattle.lil_right_decl.specs.Constants.{Behind}
 use Rattle.lil_right_decl.specs.Parameters.{local_same, paired_lie, paired_headed, k, with_parts, IsNamed, ArePassed, IsHeading, none_yet, type_there, section_right}
 
@@ -68,28 +66,6 @@ after_none e f b = record {
   told = b.1;
 }
 
--- ---- results: an array or a record is none
-structure_form : (o : Option TypeEntry) → composite_by o ≡ true → (is_form is_record_form (form_in o) || is_some (of_form array_of (form_in o))) ≡ true
-structure_form None h = absurd (true≢false (sym h))
-structure_form (Some x) h = by x.form h
-  where
-    by : (f : TypeForm) → is_composite f ≡ true → (is_record_form f || is_some (array_of f)) ≡ true
-    by (form.Array i e) h = refl
-    by (form.Record xs) h = refl
-    by _ h = absurd (true≢false (sym h))
-
-structure_is : (t : Table) → IsTold t → (n : ℕ) → composite_at t n ≡ true → is_structure t n ≡ true
-unfolding is_record array_parts shape
-structure_is t told n h = ap (λ m. is_form is_record_form (form_in (entry t m)) || is_some (of_form array_of (form_in (entry t m)))) (meant_is t told n) ∙ structure_form (entry t n) h
-
--- what is named by a type that is no structure has a kind
-result_told : (t : Table) → IsTold t → (r : ℕ) → lies_at t r ≡ true → is_structure t r ≡ false → ResultTold t (Some r)
-result_told t told r lies plain = by (kind_at t r) refl
-  where
-    by : (o : Option RKind) → kind_at t r ≡ o → ResultTold t (Some r)
-    by (Some k) is = (k, is)
-    by None is = absurd (true≢false (sym (structure_is t told r (ap (λ o. is_some o || composite_at t r) (sym is) ∙ lies)) ∙ plain))
-
 -- a phrase behind one of two parts
 both_right : {A B C : Type 0} (P : A → Type 0) (Q : C → Type 0) (m : A × List Row) (k : A → B × List Row) (f : B → C × List Row) → Right P m → ((a : A) → P a → Right Q (after (k a) f)) → Right Q (after (after m k) f)
 unfolding after
@@ -133,7 +109,7 @@ module _ (e : Env) (begun : Begun e) (h : Heading) where
     base = record e { types = u ps r }
 
     d : Declared base
-    d = declared_added e before (own e.types) (typed ps r) tt few
+    d = declared_added e before (own e.types) (typed ps r) (all_then (ParameterTold e.types) (PassedTold e.types) (λ x. inl) ps.list p.lie, returns) few
 
     built : AllFine (ParameterTold (u ps r)) ps.list
     built = all_then (ParameterTold e.types) (ParameterTold (u ps r)) (parameter_stays e.types (u ps r) before.told.types (grown_kept e.types (u ps r) (added_grown e.types (own e.types) (typed ps r)))) ps.list p.lie
@@ -226,38 +202,27 @@ module _ (e : Env) (begun : Begun e) (h : Heading) where
     unfolding after bind_at numbered_node
     broken_right wrong clear = record { its = _; procedures = refl; procedure = refl; few = λ few. few; told = λ few. absurd (wrong few) }
 
-    -- what the result is
-    abbrev IsResult : NamedType → Type 0
-    IsResult Absent = Unit {0}
-    IsResult (Given r) = Few e.types → ResultTold e.types (Some r)
-    IsResult Faulty = Few e.types → ⊥
-
     typed_so : (r : Option ℕ) → (Few e.types → ResultTold e.types r) → (c : Bool) → ps.right ≡ c → Right (IsHeaded e) (after (form_node f h.place (if c then Some (typed ps r) else None)) (named_means (k e) h.name))
     unfolding after
     typed_so r returns true is = after_right (IsTyped r) (IsHeaded e) (type_node f h.place (typed ps r)) (named_means (k e) h.name) (typed_right r) (named_right r returns)
     typed_so r returns false is = broken_right (λ few. true≢false (sym (told few).right ∙ is))
 
-    formed_right : (n : NamedType) → IsResult n → Right (IsHeaded e) (after (form_node f h.place (procedure_form ps n)) (named_means (k e) h.name))
+    formed_right : (n : NamedType) → IsResult e n → Right (IsHeaded e) (after (form_node f h.place (procedure_form ps n)) (named_means (k e) h.name))
     unfolding after
     formed_right Absent j = typed_so None (λ few. tt) ps.right refl
     formed_right (Given r) j = typed_so (Some r) j ps.right refl
     formed_right Faulty j = broken_right j
 
-    result_right : (at : Place) (o : Option ℕ) → (Few e.types → Lies e.types o) → Right IsResult (result_node e.types at o)
-    unfolding result_node
-    result_right at None lies clear = lies
-    result_right at (Some r) lies clear = subst (λ c. IsResult (if c then Faulty else Given r)) (sym clear.0) (λ few. result_told e.types (begun few).told.types r (lies few) clear.0)
-
   parts_right : (q : Headed) → IsHeading e q → (r : Option Qualident) → Right (IsHeaded e) (after (after (result_means q.0 r) (λ n. form_node q.0 h.place (procedure_form q.1 n))) (named_means (k e) h.name))
-  parts_right q j r = both_right (IsResult q.1 j.blocks j.locals j.told) (IsHeaded e) (result_means q.0 r) (λ n. form_node q.0 h.place (procedure_form q.1 n)) (named_means (k e) h.name) (its r) rest
+  parts_right q j r = both_right (IsResult e) (IsHeaded e) (result_means q.0 r) (λ n. form_node q.0 h.place (procedure_form q.1 n)) (named_means (k e) h.name) (its r) rest
     where
-      rest : (n : NamedType) → IsResult q.1 j.blocks j.locals j.told n → Right (IsHeaded e) (after (form_node q.0 h.place (procedure_form q.1 n)) (named_means (k e) h.name))
+      rest : (n : NamedType) → IsResult e n → Right (IsHeaded e) (after (form_node q.0 h.place (procedure_form q.1 n)) (named_means (k e) h.name))
       rest n i = subst (λ (g : Env). Right (IsHeaded e) (after (form_node g h.place (procedure_form q.1 n)) (named_means (k e) h.name))) (sym j.is) (formed_right q.1 j.blocks j.locals j.told n i)
 
-      its : (r : Option Qualident) → Right (IsResult q.1 j.blocks j.locals j.told) (result_means q.0 r)
+      its : (r : Option Qualident) → Right (IsResult e) (result_means q.0 r)
       its None = λ clear. tt
-      its (Some x) = after_right (λ o. Few e.types → Lies e.types o) (IsResult q.1 j.blocks j.locals j.told) (type_named q.0 x) (result_node q.0.types x.name.place) (type_there e begun q j x)
-          (λ o lies. subst (λ (t : Table). Right (IsResult q.1 j.blocks j.locals j.told) (result_node t x.name.place o)) (sym (ap (λ (g : Env). g.types) j.is)) (result_right q.1 j.blocks j.locals j.told x.name.place o lies))
+      its (Some x) = after_right (λ o. Few e.types → Lies e.types o) (IsResult e) (type_named q.0 x) (result_node q.0.types x.name.place) (type_there e begun q j x)
+          (λ o lies. subst (λ (t : Table). Right (IsResult e) (result_node t x.name.place o)) (sym (ap (λ (g : Env). g.types) j.is)) (result_right e begun x.name.place o lies))
 
   pub heading_right : Right (IsHeaded e) (heading_means e h)
   heading_right = after_right (IsHeading e) (IsHeaded e) (walk (section_step (home_at e (k e))) (names.begun e, no_parameters) h.sections) _

@@ -1,17 +1,14 @@
 -- The parameters of a heading, in the block and among the variables of the next procedure.
-use Rattle.std.proofs.Common.{◌≡◌, ℕ, zero, suc, ◌+◌, ◌<◌, inl, inr, true, not, ◌&&◌, ◌||◌, List, [], ◌∷◌, ◌++◌, length, slice_get, Option, Some, None, IfSome, if◌then◌else◌, refl, sym, ap, subst, ◌∙◌, arith, true≢false}
-use Rattle.std.specs.Prelude.{is_some, nat_lt, slice_set}
+use Rattle.std.proofs.Common.{◌≡◌, ℕ, zero, suc, ◌+◌, ◌<◌, inl, inr, true, List, [], ◌∷◌, ◌++◌, length, slice_get, Option, Some, None, IfSome, if◌then◌else◌, refl, sym, ap, subst, ◌∙◌, arith}
+use Rattle.std.specs.Prelude.{nat_lt, slice_set}
 use Rattle.std.proofs.lemmas.{Bool.Decides.nat_tests, List.length_push}
 use Rattle.lil_base.specs.declared.fault.Place.{Place}
 use Rattle.lil_text.specs.declared.tree.{Ident.Ident, Qualident.Qualident}
 use Rattle.lil_language.specs.declared.{unit.{Section.Section}}
-use Rattle.lil_types.specs.{Types.{Table, entry}, Adding.{own}, declared.table.{Parameter.Parameter, TypeEntry.TypeEntry, TypeForm.TypeForm}}
-use Rattle.lil_types.specs.declared.table.TypeForm.TheVariants as form
+use Rattle.lil_types.specs.{Types.{Table}, Adding.{own}, declared.table.{Parameter.Parameter}}
 use Rattle.lil_declared.specs.{Modes.mode_of, declared.declared.RVar.RVar}
-use Rattle.lil_resolved.specs.declared.resolved.RKind.{RKind}
 use Rattle.lil_report.specs.Told.{Row, after, walk}
-use Rattle.lil_kinds.specs.Forms.{form_in, of_form, is_form, array_of, array_parts, is_record_form, is_record, shape}
-use Rattle.lil_shapes.specs.{Bases.{kind_at, is_composite, composite_by, composite_at}, ListLaws.AllFine, Pointers.lies_at, ShapeSound.{earlier}}
+use Rattle.lil_shapes.specs.{ListLaws.AllFine, Pointers.lies_at, ShapeSound.{earlier}}
 use Rattle.lil_forms.specs.Scopes.{fine_more}
 use Rattle.lil_forms.specs.Variables.{passing_by}
 use Rattle.lil_scope.specs.{Names.{Names, look_in, inner_or, block_by, block_at, find_in, bound, bound_at, bind_at, with_local, locals_in, inside, entered, outside, level, chain}, declared.{env.Env.Env, thing.{Entry.Entry, Thing.Thing}}}
@@ -19,9 +16,9 @@ use Rattle.lil_scope.specs.declared.thing.Thing.TheVariants as thing
 use Rattle.lil_scope.specs.Names as names
 use Rattle.lil_check_value.specs.{declared.names.Looked.{Looked, TheVariants.{Thing as Declared_as}}, Looks.{nearest, looked_as, or_declared, look, module_of, module_node, member_type, type_by, type_named}}
 use Rattle.lil_check_value.specs.Looks.{type_node as type_of_name}
-use Rattle.lil_check_type.specs.{declared.routines.Parameters.Parameters, Records.{is_structure, sort_or, no_parameters, with_parameter}}
+use Rattle.lil_check_type.specs.{declared.routines.Parameters.Parameters, Records.{sort_or, no_parameters, with_parameter}}
 use Rattle.lil_check_decl.specs.{declared.home.Home.Home, Headings.{variable_thing, with_variable, section_home, Headed, parameter_step, section_step, home_at}}
-use Rattle.lil_right_type.specs.{Right.{Right, after_right}, Found.{ParameterTold, AreHeaded, EnvTold}, Homes.{IsHome, OnPath, last_locals}, Types.{IsTold, meant_is}}
+use Rattle.lil_right_type.specs.{Right.{Right, after_right}, Found.{ParameterTold, AreHeaded, EnvTold}, Homes.{IsHome, OnPath, last_locals}}
 use Rattle.lil_right_value.specs.Names.{Lies, LookTold, look_told, named_lies, bound_is}
 use Rattle.lil_right_sort.specs.{Growth.{all_then, Few, last_there, AllLie}, Simple.{Begun, walk_keeps}}
 

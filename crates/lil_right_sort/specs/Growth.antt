@@ -1,5 +1,5 @@
 -- Tables of types that grow: what is told of the types before stays, and a next type is told where its parts are.
-use Rattle.std.proofs.Common.{◌≡◌, ℕ, suc, zero, ◌<◌, ◌≤◌, Bool, true, false, ◌||◌, List, [], ◌∷◌, ◌++◌, length, slice_get, Option, Some, None, if◌then◌else◌, refl, sym, ap, subst, ◌∙◌, arith, true≢false, ◌⊎◌, inl, inr}
+use Rattle.std.proofs.Common.{◌≡◌, ℕ, suc, zero, ◌<◌, ◌≤◌, Bool, true, ◌||◌, List, [], ◌∷◌, ◌++◌, length, slice_get, Option, Some, None, if◌then◌else◌, refl, sym, ap, subst, ◌∙◌, arith, true≢false, ◌⊎◌, inl, inr}
 use Rattle.std.specs.Prelude.{◌*◌, pos, ◌≤ℤ◌, is_some}
 use Rattle.std.proofs.lemmas.{Option.{none-some, same_Some, slice_get_within}, Bool.Decides.nat_tests}
 use Rattle.lil_types.specs.{Types.{Table, entry, known, facts_in, meant, meant_by, base, words, words_by, values, fields_words, sum_of, record_facts, array_facts, facts_of}, Adding.{next, next_facts, fitting, with_facts, number_by, added, added_number}, declared.table.{Facts.Facts, Field.Field, Origin.Origin, Parameter.Parameter, Span.Span}}
@@ -12,10 +12,10 @@ use Rattle.lil_resolved.specs.declared.resolved.RBase.TheVariants as b
 use Rattle.lil_scope.specs.{declared.{env.{Env.Env, Wait.Wait}, thing.{Entry.Entry, Kind.Kind, Thing.Thing}}, Names.{bound_at, with_blocks, with_block, locals_in}}
 use Rattle.lil_scope.specs.declared.thing.Kind.TheVariants as k
 use Rattle.lil_scope.specs.declared.thing.Thing.TheVariants as thing
-use Rattle.lil_kinds.specs.{Forms.{form_in, shape, span_in, is_routine_form, of_form, parameters, parameters_of, parameters_in, result, result_of}}
+use Rattle.lil_kinds.specs.{Forms.{form_in, shape, span_in, of_form, parameters, parameters_of, parameters_in, result, result_of}}
 use Rattle.lil_shapes.specs.{BaseLaws.kind_base, Bases.{plain, base_by, base_form, base_at, kind_over, kind_at, is_composite, composite_at, composite_by}, ListLaws.AllFine, Pointers.lies_at, ShapeSound.{at_end, earlier}}
 use Rattle.lil_forms.specs.Scopes.{fine_more}
-use Rattle.lil_right_type.specs.{Homes.{Longer, AllLonger, IsPlain, Allowed, homed_bound, homed_begun, homed_more}, Types.{HasNumbers, HasSpan, FormTold, IsTold, IsOrdinal, meant_is, own_base, known_ordinal, entry_known}, Words.{FormMeasured, AreMeasured}, Parts.base_itself, Found.{KindTold, ParameterTold, ResultTold, HeadingTold, AreHeaded, ThingTold, EnvTold}}
+use Rattle.lil_right_type.specs.{Homes.{Longer, AllLonger, IsPlain, Allowed, homed_bound, homed_begun, homed_more}, Types.{HasNumbers, HasSpan, PassedTold, FormTold, IsTold, IsOrdinal, meant_is, own_base, known_ordinal, entry_known}, Words.{FormMeasured, AreMeasured}, Parts.base_itself, Found.{KindTold, ParameterTold, ResultTold, HeadingTold, AreHeaded, ThingTold, EnvTold}}
 use Rattle.lil_right_value.specs.Names.{Told, bound_at_is}
 pub use Rattle.lil_right_type.specs.{Right.all_then, Homes.last_there}
 
@@ -161,6 +161,18 @@ module _ {to : ℕ} (t u : Table) (told : IsTold t) (kept : Kept to t u) where
   pub lies_stays : (n : ℕ) → lies_at t n ≡ true → lies_at u n ≡ true
   lies_stays n h = either (kind_at t n) (composite_at t n) h (λ j is. kind_lies u n j (kind_stays n j is)) (λ is. composite_lies u n (composite_stays n is))
 
+  -- ---- parameters and results
+  pub parameter_stays : (p : Parameter) → ParameterTold t p → ParameterTold u p
+  parameter_stays p h = lies_stays p.sort h
+
+  passed_stays : (p : Parameter) → PassedTold t p → PassedTold u p
+  passed_stays p (inl h) = inl (lies_stays p.sort h)
+  passed_stays p (inr h) = inr h
+
+  pub result_stays : (r : Option ℕ) → ResultTold t r → ResultTold u r
+  result_stays None h = tt
+  result_stays (Some r) h = (h.0, kind_stays r h.0 h.1)
+
   -- ---- the types
   pub has_span_stays : (n : ℕ) → HasSpan t n → HasSpan u n
   has_span_stays n h = (h.0, span_stays n h.0 h.1)
@@ -171,6 +183,7 @@ module _ {to : ℕ} (t u : Table) (told : IsTold t) (kept : Kept to t u) where
   form_stays n f (Record xs) h = (h.0, h.1, all_then _ _ (λ (x : Field). lies_stays x.sort) xs h.2)
   form_stays n f (SetOf m) h = (h.0, h.1, (h.2.0, span_stays m h.2.0 h.2.1, h.2.2, h.2.3))
   form_stays n f (Pointer m) h = (h.0, h.1, lies_stays m h.2)
+  form_stays n f (Procedure ps r) h = (h.0, h.1, all_then (PassedTold t) (PassedTold u) passed_stays ps h.2, result_stays r h.3)
   form_stays n f _ h = h
 
   same_fields : (n : ℕ) → n ≤ next t → (xs : List Field) → AllFine (λ (x : Field). x.sort < n) xs → fields_words u xs ≡ fields_words t xs
@@ -202,13 +215,6 @@ module _ {to : ℕ} (t u : Table) (told : IsTold t) (kept : Kept to t u) where
   unfolding parameters result
   same_signature s here = (same_heading parameters_in (λ e a form. sym (ap parameters_of form)) s here, same_heading (of_form result_of) (λ e a form. sym (ap result_of form)) s here)
 
-  pub parameter_stays : (p : Parameter) → ParameterTold t p → ParameterTold u p
-  parameter_stays p h = lies_stays p.sort h
-
-  pub result_stays : (r : Option ℕ) → ResultTold t r → ResultTold u r
-  result_stays None h = tt
-  result_stays (Some r) h = (h.0, kind_stays r h.0 h.1)
-
   pub heading_stays : (s : ℕ) → s < next t → HeadingTold t s → HeadingTold u s
   heading_stays s here h =
       let same = same_signature s here in
@@ -239,7 +245,7 @@ PartsTold t (Array i e) = HasSpan t i × (lies_at t e ≡ true)
 PartsTold t (Record xs) = AllFine (λ (x : Field). lies_at t x.sort ≡ true) xs
 PartsTold t (SetOf m) = (u : Span) × (span_in (known t m) ≡ Some u) × (pos 0 ≤ℤ u.low) × (u.high ≤ℤ pos 15)
 PartsTold t (Pointer m) = lies_at t m ≡ true
-PartsTold t (Procedure ps r) = Unit {0}
+PartsTold t (Procedure ps r) = AllFine (PassedTold t) ps × ResultTold t r
 PartsTold t (Opaque o) = ⊥
 
 -- as many constants as there are numbers for
@@ -277,7 +283,7 @@ module _ (t : Table) (told : IsTold t) where
       ((a.0, a.2, h), (all_then _ _ (λ (x : Field). lies_below t told x.sort) xs h, a.1))
   new_is (SetOf m) f is few h = let a = facts_are (next t) 1 None f is in ((a.0, a.2, h), a.1)
   new_is (Pointer m) f is few h = let a = facts_are (next t) 1 None f is in ((a.0, a.2, h), a.1)
-  new_is (Procedure ps r) f is few h = let a = facts_are (next t) 1 None f is in ((a.0, a.2), a.1)
+  new_is (Procedure ps r) f is few h = let a = facts_are (next t) 1 None f is in ((a.0, a.2, h.0, h.1), a.1)
   new_is (Opaque o) f is few h = absurd h
 
 -- ---- the table with it
@@ -306,16 +312,16 @@ module _ (t : Table) (told : IsTold t) where
   pub span_lies : (n : ℕ) → HasSpan t n → lies_at t n ≡ true
   span_lies n h = let o : IsOrdinal t n h.0 = known_ordinal t told n h.0 h.1 in kind_lies t n o.kind o.at
 
-  -- a type of the table that is no procedure type
-  entry_lies : (n : ℕ) (o : Origin) (f : Facts) (form : TypeForm) → entry t n ≡ Some (record { origin = o; form = form; facts = f }) → is_routine_form form ≡ false → lies_at t n ≡ true
-  entry_lies n o f (Enumeration xs) is other = span_lies n (_, ap span_in (entry_known t n _ is) ∙ ap (λ (f : Facts). f.span) (told n _ is).0)
-  entry_lies n o f (Subrange m s) is other = span_lies n (s, ap span_in (entry_known t n _ is) ∙ (told n _ is).0)
-  entry_lies n o f (Array i m) is other = composite_lies t n (ap composite_by is)
-  entry_lies n o f (Record xs) is other = composite_lies t n (ap composite_by is)
-  entry_lies n o f (SetOf m) is other = kind_lies t n (plain b.Set) (base_itself t told n b.Set (ap (base_by n) is)).1
-  entry_lies n o f (Pointer m) is other = kind_lies t n (plain (b.Pointer n)) (base_itself t told n (b.Pointer n) (ap (base_by n) is)).1
-  entry_lies n o f (Procedure ps r) is other = absurd (true≢false other)
-  entry_lies n o f (Opaque x) is other = absurd (told n _ is)
+  -- a type of the table
+  entry_lies : (n : ℕ) (o : Origin) (f : Facts) (form : TypeForm) → entry t n ≡ Some (record { origin = o; form = form; facts = f }) → lies_at t n ≡ true
+  entry_lies n o f (Enumeration xs) is = span_lies n (_, ap span_in (entry_known t n _ is) ∙ ap (λ (f : Facts). f.span) (told n _ is).0)
+  entry_lies n o f (Subrange m s) is = span_lies n (s, ap span_in (entry_known t n _ is) ∙ (told n _ is).0)
+  entry_lies n o f (Array i m) is = composite_lies t n (ap composite_by is)
+  entry_lies n o f (Record xs) is = composite_lies t n (ap composite_by is)
+  entry_lies n o f (SetOf m) is = kind_lies t n (plain b.Set) (base_itself t told n b.Set (ap (base_by n) is)).1
+  entry_lies n o f (Pointer m) is = kind_lies t n (plain (b.Pointer n)) (base_itself t told n (b.Pointer n) (ap (base_by n) is)).1
+  entry_lies n o f (Procedure ps r) is = kind_lies t n (plain (b.Procedure n)) (base_itself t told n (b.Procedure n) (ap (base_by n) is)).1
+  entry_lies n o f (Opaque x) is = absurd (told n _ is)
 
   pub entry_shape : (n : ℕ) (e : TypeEntry) → entry t n ≡ Some e → shape t n ≡ Some e.form
   unfolding shape
@@ -353,8 +359,8 @@ module _ (t : Table) (o : Origin) (form : TypeForm) where
                   (measured_stays t u told kept (next t) f form (omega arith) new.1, facts.1),
             )
 
-    pub added_lies : Few (added t o form) → is_routine_form form ≡ false → (n : ℕ) → added_number t form ≡ Some n → lies_at (added t o form) n ≡ true
-    added_lies few other n is = let e = added_entry n is in entry_lies (added t o form) (added_told few).0 n o e.0 form e.1 other
+    pub added_lies : Few (added t o form) → (n : ℕ) → added_number t form ≡ Some n → lies_at (added t o form) n ≡ true
+    added_lies few n is = let e = added_entry n is in entry_lies (added t o form) (added_told few).0 n o e.0 form e.1
 
 -- procedure types, by their shape
 pub shape_parameters : (t : Table) (n : ℕ) (ps : List Parameter) (r : Option ℕ) → shape t n ≡ Some (Procedure ps r) → (parameters t n ≡ ps) × (result t n ≡ r)

@@ -11,7 +11,7 @@ use Rattle.lil_scope.specs.declared.thing.Kind.{Kind}
 use Rattle.lil_scope.specs.declared.thing.Kind.TheVariants as k
 use Rattle.lil_declared.specs.declared.declared.RVar.{RVar}
 use Rattle.lil_forms.specs.Properties.{Property, Reach}
-use Rattle.lil_kinds.specs.{Forms.{span_in, span_of, is_routine_form}, Kinds.{is_constant, word_number, number, suits, compatible}, declared.found.Found.Found}
+use Rattle.lil_kinds.specs.{Forms.{span_in, span_of}, Kinds.{is_constant, word_number, number, suits, compatible}, declared.found.Found.Found}
 use Rattle.lil_kinds.specs.Kinds as kinds
 use Rattle.lil_resolved.specs.{Kinds.{is_ordinal, least, greatest}, Views.base_view, declared.resolved.{RBase.RBase, RNamed.RNamed}}
 use Rattle.lil_resolved.specs.declared.resolved.RBase.TheVariants as b
@@ -21,10 +21,6 @@ use Rattle.lil_check_type.specs.{declared.{bounds.Bound.Bound, named.NamedType.{
 use Rattle.lil_check_type.specs.Labels as labels
 use Rattle.lil_right_type.specs.{Right.{Clear, Right, IsThere, is_so}, Types.{HasSpan, FormTold, IsTold, IsOrdinal, own_base, entry_base, entry_known, no_entry, known_ordinal, span_is}, Parts.base_itself, Found.{is_scalar, KindTold, IsFound}}
 use Rattle.lil_right_sort.specs.Growth.{some_is, PartsTold}
-
--- a form of types in which something lies, where its parts are told
-abbrev pub MadeOf : Table → TypeForm → Type 0
-MadeOf t form = PartsTold t form × (is_routine_form form ≡ false)
 
 -- the numbers of a type are those of a base
 abbrev pub HasBase : Table → ℕ → Type 0
@@ -90,6 +86,7 @@ module _ (t : Table) (told : IsTold t) where
       in_form o f (form.Subrange m s) is j = (s, ap span_in (entry_known t n _ is) ∙ j.0)
       in_form o f (form.SetOf m) is j = absurd (not_ordinal b.Set refl (own o f _ is j.0))
       in_form o f (form.Pointer m) is j = absurd (not_ordinal (b.Pointer n) refl (own o f _ is j.0))
+      in_form o f (form.Procedure ps r) is j = absurd (not_ordinal (b.Procedure n) refl (own o f _ is j.0))
       in_form o f (form.Opaque x) is j = absurd j
       in_form o f form is j = absurd (none-some h.0 (own o f form is j.0))
 
@@ -192,7 +189,7 @@ module _ (t : Table) (told : IsTold t) where
       ordered : (x y : ℤ) → int_lt y x ≡ false → x ≤ℤ y
       ordered x y h = omega (arith, ints)
 
-  range_law : (p : Place) (named : NamedType) (of : Option ℕ) (a c : Bound) → ((n : ℕ) → of ≡ Some n → HasBase t n) → KindTold t a.kind → KindTold t c.kind → Right (IsThere (MadeOf t)) (range_over t p named of a c)
+  range_law : (p : Place) (named : NamedType) (of : Option ℕ) (a c : Bound) → ((n : ℕ) → of ≡ Some n → HasBase t n) → KindTold t a.kind → KindTold t c.kind → Right (IsThere (PartsTold t)) (range_over t p named of a c)
   unfolding compatible
   range_law p named None a c under first last clear = absurd (true≢false clear.0)
   range_law p named (Some n) a c under first last clear =
@@ -207,9 +204,9 @@ module _ (t : Table) (told : IsTold t) where
       let low_ends = bounds (least (base_view of.0)) span.0.low (greatest (base_view of.0)) span.2.low in
       let high_ends = bounds (least (base_view of.0)) span.0.high (greatest (base_view of.0)) span.2.high in
       let based = under_base n of in
-      there (MadeOf t) (range_form t named (Some n) a.kind c.kind) (form.Subrange n span.0)
+      there (PartsTold t) (range_form t named (Some n) a.kind c.kind) (form.Subrange n span.0)
       ((λ i. if right_first i && right_last i then range_by (Some n) (span_between t a.kind c.kind) else None) ∙ ap (range_by (Some n)) span.1)
-      (record { base = of.0; is = of.1; ordinal = of.2; least = low_ends.0; ordered = span.2.ordered; greatest = high_ends.1 }, refl)
+      (record { base = of.0; is = of.1; ordinal = of.2; least = low_ends.0; ordered = span.2.ordered; greatest = high_ends.1 })
 
   -- ---- labels that go together with a type
   module _ (us : List Span) (n : ℕ) (of : HasBase t n) where
@@ -255,12 +252,12 @@ module _ (t : Table) (told : IsTold t) where
   first_base (k.Of s) h n is = span_under s n is
   first_base k.Nil h n is = absurd (none-some n is)
   first_base (k.Open s) h n is = absurd (none-some n is)
-  first_base (k.Routine s) h n is = absurd h
+  first_base (k.Routine s) h n is = absurd (none-some n is)
 
   abbrev asked : Found → Bound
   asked a = record { kind = a.kind; first = a.first }
 
-  pub range_right : {vs : RNamed → Option RVar} {around : List ℕ} {R : Reach} (P : Property t vs around R) (p : Place) (named : NamedType) (a c : Option Found) → NamedTold t named → IsThere (IsFound P) a → IsThere (IsFound P) c → Right (IsThere (MadeOf t)) (range_node t p named (bound_of a) (bound_of c))
+  pub range_right : {vs : RNamed → Option RVar} {around : List ℕ} {R : Reach} (P : Property t vs around R) (p : Place) (named : NamedType) (a c : Option Found) → NamedTold t named → IsThere (IsFound P) a → IsThere (IsFound P) c → Right (IsThere (PartsTold t)) (range_node t p named (bound_of a) (bound_of c))
   range_right P p Faulty a c h first last = absurd h
   range_right P p Absent None c h first last = absurd first
   range_right P p Absent (Some a) None h first last = absurd last

@@ -19,7 +19,7 @@ use Rattle.lil_check_type.specs.Made as made
 use Rattle.lil_forms.specs.{Properties.nothing, Variables.seen}
 use Rattle.lil_right_type.specs.{Right.{Clear, Right, IsThere, clear_left, clear_right, after_right, is_so}, Types.{HasSpan, IsTold, entry_base}, Found.{reach, HasWord, IsKnown}}
 use Rattle.lil_right_value.specs.{Values.asked_right, Names.{Lies, named_lies}}
-use Rattle.lil_right_sort.specs.{Growth.{Few, Grown, grown_same, grown_more, few_before, Kept, grown_kept, added_grown, added_entry, added_lies, added_told, declared_added, bound_declared, Declared}, Ranges.{MadeOf, NamedTold, range_right}}
+use Rattle.lil_right_sort.specs.{Growth.{Few, Grown, grown_same, grown_more, few_before, Kept, grown_kept, PartsTold, added_grown, added_entry, added_lies, added_told, declared_added, bound_declared, Declared}, Ranges.{NamedTold, range_right}}
 
 -- what is declared at first is told, if all that is declared at last has few constants
 abbrev pub Begun : Env → Type 0
@@ -72,7 +72,7 @@ there_is (Some a) h = (a, refl)
 
 module _ (e : Env) (begun : Begun e) where
   -- ---- a next type
-  pub type_right : (p : Place) (form : TypeForm) → (Few e.types → MadeOf e.types form) → Right (SortTold e) (type_node e p form)
+  pub type_right : (p : Place) (form : TypeForm) → (Few e.types → PartsTold e.types form) → Right (SortTold e) (type_node e p form)
   unfolding type_node
   type_right p form made clear = (
     (grown, (refl, refl)),
@@ -80,7 +80,7 @@ module _ (e : Env) (begun : Begun e) where
         let h : Declared e = begun (few_before e.types u grown few) in
         let parts = made (few_before e.types u grown few) in
         let n = there_is (added_number e.types form) clear.0 in
-        (declared_added e h (own e.types) form parts.0 few, subst (Lies u) (sym n.1) (added_lies e.types (own e.types) form h.told.types h.told.words parts.0 few parts.1 n.0 n.1)),
+        (declared_added e h (own e.types) form parts few, subst (Lies u) (sym n.1) (added_lies e.types (own e.types) form h.told.types h.told.words parts few n.0 n.1)),
   )
     where
       u : Table
@@ -89,7 +89,7 @@ module _ (e : Env) (begun : Begun e) where
       grown : Grown e.types u
       grown = added_grown e.types (own e.types) form
 
-  pub form_right : (p : Place) (o : Option TypeForm) → (Few e.types → IsThere (MadeOf e.types) o) → Right (SortTold e) (form_node e p o)
+  pub form_right : (p : Place) (o : Option TypeForm) → (Few e.types → IsThere (PartsTold e.types) o) → Right (SortTold e) (form_node e p o)
   form_right p None made clear = (later_same e, λ few. absurd (made few))
   form_right p (Some form) made clear = type_right p form made clear
 
@@ -112,13 +112,13 @@ short_is (Some s) h = let ends = within s.low s.high h in (s, refl, ends.0, ends
     within : (x y : ℤ) → (not (int_lt x (pos 0)) && not (int_lt (pos 15) y)) ≡ true → (pos 0 ≤ℤ x) × (y ≤ℤ pos 15)
     within x y h = grind (arith, ints)
 
-pub base_right : (t : Table) (p : Place) (o : Option ℕ) → Right (λ f. Lies t o → IsThere (MadeOf t) f) (base_node t p o)
+pub base_right : (t : Table) (p : Place) (o : Option ℕ) → Right (λ f. Lies t o → IsThere (PartsTold t) f) (base_node t p o)
 unfolding base_node
 base_right t p None clear h = absurd h
 base_right t p (Some n) clear h =
     let short = is_so (is_short (made.span_of t n)) clear.0 in
     let s = short_is (made.span_of t n) short in
-    subst (λ c. IsThere (MadeOf t) (if c then Some (form.SetOf n) else None)) (sym short) ((s.0, s.1, s.2, s.3), refl)
+    subst (λ c. IsThere (PartsTold t) (if c then Some (form.SetOf n) else None)) (sym short) (s.0, s.1, s.2, s.3)
 
 -- ---- enumerations: their constants are words
 entry_words : (t : Table) → IsTold t → (n : ℕ) (o : Origin) (f : Facts) (xs : List (List ℕ)) → entry t n ≡ Some (record { origin = o; form = form.Enumeration xs; facts = f }) → (w : ℕ) → w < length xs → HasWord t n w
@@ -198,7 +198,7 @@ enumeration_right e begun p is clear = (
     clear_type = clear_left (type_node e p (form.Enumeration xs)).1 _ clear.1
 
     typed : SortTold e m
-    typed = type_right e begun p (form.Enumeration xs) (λ few. (some, refl)) clear_type
+    typed = type_right e begun p (form.Enumeration xs) (λ few. some) clear_type
 
     last : Env
     last = (walk (constant_step m.1) (m.0, 0) is).0.0
@@ -231,7 +231,7 @@ simple_right e begun (simple.Subrange p q x y) =
     after_right (λ n. Few e.types → NamedTold e.types n) (SortTold e) (base_means e q) _ (named_base_right e begun q)
     (λ n h. after_right (λ a. Few e.types → IsThere (IsKnown e) a) (SortTold e) (asked_means e x) _ (expression_there e begun x)
     (λ a first. after_right (λ c. Few e.types → IsThere (IsKnown e) c) (SortTold e) (asked_means e y) _ (expression_there e begun y)
-    (λ c last. after_right (λ o. Few e.types → IsThere (MadeOf e.types) o) (SortTold e) (range_node e.types p n (bound_of a) (bound_of c)) (form_node e p)
+    (λ c last. after_right (λ o. Few e.types → IsThere (PartsTold e.types) o) (SortTold e) (range_node e.types p n (bound_of a) (bound_of c)) (form_node e p)
     (λ clear few. range_right e.types (begun few).told.types (nothing e.types (seen e) e.withs (reach e)) p n a c (h few) (first few) (last few) clear) (form_right e begun p))))
 
 pub index_right : (e : Env) → Begun e → (x : Simple) → Right (IndexTold e) (index_means e x)
@@ -243,5 +243,5 @@ index_right e begun x =
 pub set_right : (e : Env) → Begun e → (p : Place) (x : Simple) → Right (SortTold e) (set_means e p x)
 set_right e begun p x =
     after_right (SortTold e) (SortTold e) (simple_means e x) _ (simple_right e begun x)
-    (λ m h. after_right (λ o. Few m.0.types → IsThere (MadeOf m.0.types) o) (SortTold e) (base_node m.0.types (simple_first x) m.1) (form_node m.0 p)
+    (λ m h. after_right (λ o. Few m.0.types → IsThere (PartsTold m.0.types) o) (SortTold e) (base_node m.0.types (simple_first x) m.1) (form_node m.0 p)
     (λ clear few. base_right m.0.types (simple_first x) m.1 clear (h.1 few).1) (λ o made clear. sort_later e m.0 _ h.0 (form_right m.0 (λ few. (h.1 few).0) p o made clear)))

@@ -1,5 +1,5 @@
 -- The types that a right text declares: something lies in each of them, and what is declared before stays told, by induction.
-use Rattle.std.proofs.Common.{◌≡◌, ℕ, Bool, true, false, not, ◌||◌, ◌&&◌, List, [], ◌∷◌, map, reverse, Option, Some, None, IfSome, if◌then◌else◌, refl, sym, ap, subst, true≢false}
+use Rattle.std.proofs.Common.{◌≡◌, ℕ, Bool, true, false, not, ◌&&◌, List, [], ◌∷◌, map, reverse, Option, Some, None, IfSome, if◌then◌else◌, refl, sym, ap, subst}
 use Rattle.std.specs.Prelude.{◌==◌, is_some}
 use mathlib.Core.List.{reverse_aux}
 use Rattle.lil_base.specs.declared.fault.Place.{Place}
@@ -7,18 +7,18 @@ use Rattle.lil_text.specs.declared.tree.{Ident.Ident, Qualident.Qualident}
 use Rattle.lil_language.specs.declared.tree.Range.{Range}
 use Rattle.lil_language.specs.declared.unit.{Simple.Simple, Sort.Sort, FieldList.{FieldList, TheOpen.{FieldList-F, Sort-F, Variant-F}, TheFolds.{map-FieldList, map-Sort, map-Variant, ind-Sort}, TheViews.{roll-FieldList, roll-Sort}}, Variant.{Variant, roll-Variant}}
 use Rattle.lil_language.specs.declared.unit.FieldList.TheOpen as o
-use Rattle.lil_types.specs.{Types.{Table, proc, process}, declared.table.Field.Field}
+use Rattle.lil_types.specs.{Types.{Table, process}, declared.table.Field.Field}
 use Rattle.lil_types.specs.declared.table.TypeForm.TheVariants as form
 use Rattle.lil_report.specs.Told.{Row, after, walk}
 use Rattle.lil_scope.specs.{declared.{env.Env.Env, thing.Thing.Thing}, Names.find}
 use Rattle.lil_scope.specs.declared.thing.Thing.TheVariants as thing
 use Rattle.lil_shapes.specs.{ListLaws.AllFine, Pointers.lies_at}
 use Rattle.lil_forms.specs.Scopes.{fine_more}
-use Rattle.lil_check_value.specs.Looks.{type_named, not_built}
+use Rattle.lil_check_value.specs.Looks.{type_named}
 use Rattle.lil_check_type.specs.{declared.{records.Fields.Fields, labels.Labels.Labels}, Made.{Made, type_node, form_node, ordinal_node}, Simple.index_means, Labels.{no_labels, label_means, label_step}, Records.{no_fields, field_step, tag_field, tag_means, record_form, if_right, record_node}}
 use Rattle.lil_check_type.specs.Sorts.{index_step, array_form, array_step, array_means, with_wait, pointer_form, target_so_far, waiting_means, pointer_means, Sense, Part, Cased, FieldSense, VariantSense, fields_by, else_by, named_fields, variants_by, labelled, case_fields, field_layer, variant_layer, sense, fields_sense, variant_sense, fields_rolled, sort_rolled, variant_rolled, sort_layer, sort_means}
 use Rattle.lil_right_type.specs.{Right.{Right, IsThere, after_right, walk_right}, Types.{HasSpan, IsTold}, Found.ThingTold}
-use Rattle.lil_right_sort.specs.{Growth.{all_then, Few, few_before, lies_stays, has_span_stays, span_lies, Kept, Declared, declared_waits}, Ranges.{HasBase, Numbered, span_base, MadeOf}, Labels.label_right, Simple.{Begun, Follows, later_same, follows, SortTold, IndexTold, sort_later, walk_keeps, type_right, form_right, named_right, ordinal_right, simple_right, index_right, set_right}}
+use Rattle.lil_right_sort.specs.{Growth.{all_then, Few, few_before, lies_stays, has_span_stays, span_lies, Kept, PartsTold, Declared, declared_waits}, Ranges.{HasBase, Numbered, span_base}, Labels.label_right, Routines.procedure_right, Simple.{Begun, Follows, later_same, follows, SortTold, IndexTold, sort_later, walk_keeps, type_right, form_right, named_right, ordinal_right, simple_right, index_right, set_right}}
 use Rattle.lil_right_value.specs.Names.{Lies, find_told}
 
 reversed : {A : Type 0} (P : A → Type 0) (xs ys : List A) → AllFine P xs → AllFine P ys → AllFine P (reverse_aux xs ys)
@@ -44,10 +44,10 @@ spans_stay t u told kept = all_then _ _ one
 abbrev ArraysTold : Env → List (Option ℕ) → Made → Type 0
 ArraysTold e os m = Follows e m.0 (Lies m.0.types m.1 × AllFine (λ o. IsThere (HasSpan m.0.types) o) os)
 
-array_made : (t : Table) (i o : Option ℕ) → IsThere (HasSpan t) i → Lies t o → IsThere (MadeOf t) (array_form i o)
+array_made : (t : Table) (i o : Option ℕ) → IsThere (HasSpan t) i → Lies t o → IsThere (PartsTold t) (array_form i o)
 array_made t None o h j = absurd h
 array_made t (Some i) None h j = absurd j
-array_made t (Some i) (Some n) h j = ((h, j), refl)
+array_made t (Some i) (Some n) h j = (h, j)
 
 arrays_right : (e : Env) (p : Place) (os : List (Option ℕ)) (m : Made) → ArraysTold e os m → Right (SortTold e) (walk (array_step p) m os)
 arrays_right e p [] m h = λ clear. (h.0, λ few. ((h.1 few).0, (h.1 few).1.0))
@@ -61,7 +61,7 @@ arrays_right e p (i ∷ os) m h = after_right (ArraysTold e os) (SortTold e) (ar
 -- ---- pointers
 target_lies : (e : Env) (o : Option Thing) → IfSome o (ThingTold e.types e.texts) → lies_at e.types (target_so_far o) ≡ true
 target_lies e None h = refl
-target_lies e (Some (thing.Type n)) h = by (n == proc || n == process) (λ is. h (ap not is))
+target_lies e (Some (thing.Type n)) h = by (n == process) (λ is. h (ap not is))
   where
     by : (c : Bool) → (c ≡ false → lies_at e.types n ≡ true) → lies_at e.types (if c then 0 else n) ≡ true
     by true there = refl
@@ -75,7 +75,7 @@ wait_right e f (Some n) i h = (h.0, λ few. (declared_waits f (h.1 few).0 _ f.co
 waiting_right : (e : Env) → Begun e → (p : Place) (i : Ident) → Right (SortTold e) (waiting_means e p i)
 waiting_right e begun p i =
     after_right (SortTold e) (SortTold e) (type_node e p (form.Pointer (target_so_far (find e.scopes i.name)))) _
-    (type_right e begun p (form.Pointer (target_so_far (find e.scopes i.name))) (λ few. (target_lies e (find e.scopes i.name) (find_told e (begun few).told i.name), refl)))
+    (type_right e begun p (form.Pointer (target_so_far (find e.scopes i.name))) (λ few. target_lies e (find e.scopes i.name) (find_told e (begun few).told i.name)))
     (λ m h clear. wait_right e m.0 m.1 i h)
 
 -- ---- records
@@ -246,8 +246,8 @@ record_right e begun p fs all =
     (λ q h. after_right (SortTold q.0) (SortTold e) (form_node q.0 p (record_form q.1)) _ (form_right q.0 (λ few. (h.1 few).0) p (record_form q.1) (λ few. formed q.0.types q.1 (h.1 few).1))
     (λ m j clear. sort_later e q.0 (m.0, if_right q.1.right m.1) h.0 (j.0, λ few. ((j.1 few).0, subst (λ c. Lies m.0.types (if_right c m.1)) (sym (h.1 (few_before q.0.types m.0.types j.0.0 few)).1.1) (j.1 few).1))))
   where
-    formed : (t : Table) (fs : Fields) → FieldsTold t fs → IsThere (MadeOf t) (record_form fs)
-    formed t fs h = subst (λ c. IsThere (MadeOf t) (if c then Some (form.Record fs.list) else None)) (sym h.0) (h.2, refl)
+    formed : (t : Table) (fs : Fields) → FieldsTold t fs → IsThere (PartsTold t) (record_form fs)
+    formed t fs h = subst (λ c. IsThere (PartsTold t) (if c then Some (form.Record fs.list) else None)) (sym h.0) h.2
 
 pointer_right : (e : Env) → Begun e → (p : Place) (i : Option Ident) (target : Env → Made × List Row) → ((f : Env) → Begun f → Right (SortTold f) (target f)) → Right (SortTold e) (pointer_means p i target e)
 pointer_right e begun p (Some i) target right = waiting_right e begun p i
@@ -255,18 +255,17 @@ pointer_right e begun p None target right =
     after_right (SortTold e) (SortTold e) (target e) _ (right e begun)
     (λ m h clear. sort_later e m.0 _ h.0 (form_right m.0 (λ few. (h.1 few).0) p (pointer_form m.1) (λ few. formed m.0.types m.1 (h.1 few).1) clear))
   where
-    formed : (t : Table) (o : Option ℕ) → Lies t o → IsThere (MadeOf t) (pointer_form o)
+    formed : (t : Table) (o : Option ℕ) → Lies t o → IsThere (PartsTold t) (pointer_form o)
     formed t None h = absurd h
-    formed t (Some n) h = (h, refl)
+    formed t (Some n) h = h
 
 layer_right : (y : Sort-F Fielded Sorted Varied) → SenseRight (sort_layer (meant (bare y)))
-unfolding not_built
 layer_right (o.Scalar x) e begun = simple_right e begun x
 layer_right (o.ArrayOf p xs y) e begun = array_right e begun p xs (sense y.0).means y.1
 layer_right (o.RecordOf p fs) e begun = record_right e begun p (map fields_sense (map (λ x. x.0) fs)) (each_fielded fs)
 layer_right (o.SetOver p x) e begun = set_right e begun p x
 layer_right (o.PointerTo p y) e begun = pointer_right e begun p (sense y.0).name (sense y.0).means y.1
-layer_right (o.ProcedureOf p fs q) e begun = λ clear. absurd (true≢false clear.0)
+layer_right (o.ProcedureOf p fs q) e begun = procedure_right e begun p fs q
 
 -- ---- by induction
 sense_right : (x : Sort) → SenseRight (sense x)

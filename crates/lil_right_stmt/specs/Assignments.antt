@@ -1,67 +1,25 @@
 -- Assignments in which no test finds a fault: what is assignable to the type of a place goes there.
 use Rattle.std.proofs.Common.{◌≡◌, ℕ, ◌≤◌, Bool, true, false, not, ◌||◌, List, slice_get, Option, Some, None, if◌then◌else◌, refl, sym, ap, subst, ◌∙◌, arith, true≢false, inl, inr}
-use Rattle.std.specs.Prelude.{ℤ, pos, negsuc, ◌+ℤ◌, ◌-ℤ◌, ◌&&◌, ◌==◌, nat_le, is_some}
-use Rattle.std.specs.Option.{option_map}
-use Rattle.std.proofs.lemmas.{Option.{none-some, same_Some}, Bool.Decides.nat_tests}
+use Rattle.std.specs.Prelude.{◌==◌, is_some}
+use Rattle.std.proofs.lemmas.{Option.same_Some, Bool.Decides.nat_tests}
 use Rattle.lil_base.specs.declared.fault.Place.{Place}
-use Rattle.lil_types.specs.Types as types
-use Rattle.lil_types.specs.Types.{Table, integer, cardinal, char, base, is_whole, values}
+use Rattle.lil_types.specs.Types.{Table}
 use Rattle.lil_declared.specs.declared.declared.RVar.{RVar}
-use Rattle.lil_resolved.specs.Kinds as kinds
-use Rattle.lil_resolved.specs.{Kinds.Scope, Resolved.shape_of, Views.{assign_is, copy_is, text_is, place_of}, declared.resolved.{RBase.RBase, RExpr.RExpr, RKind.RKind, RNamed.RNamed, RStmt.RStmt}}
-use Rattle.lil_resolved.specs.declared.resolved.RBase.TheVariants as b
-use Rattle.lil_shapes.specs.{BaseLaws.{same_sort, kind_base}, Bases.{base_at, kind_at, array_at, composite_at, numbers_of, elements_in, elements_at}, Pointers.lies_at}
-use Rattle.lil_shapes.specs.declared.composites.ArrayParts as shaped
+use Rattle.lil_resolved.specs.{Kinds.Scope, Resolved.shape_of, Views.{assign_is, copy_is, text_is, place_of}, declared.resolved.{RExpr.RExpr, RKind.RKind, RNamed.RNamed, RStmt.RStmt}}
+use Rattle.lil_shapes.specs.{Bases.{kind_at, composite_at}, Pointers.lies_at}
 use Rattle.lil_scope.specs.declared.thing.Kind.{Kind}
 use Rattle.lil_scope.specs.declared.thing.Kind.TheVariants as k
-use Rattle.lil_kinds.specs.{Forms.array_parts, Kinds.{suits, compatible, passes, assignable, misses, has_room, holds, holds_by}, declared.{forms.ArrayParts.ArrayParts, found.{Form.Form, Found.Found, Located.Located}}}
+use Rattle.lil_kinds.specs.{Kinds.{compatible, assignable, misses}, declared.found.{Form.Form, Found.Found, Located.Located}}
 use Rattle.lil_kinds.specs.declared.found.Form.TheVariants as form
 use Rattle.lil_forms.specs.Properties.{Reach}
-use Rattle.lil_forms.specs.{Places.{located_in, cell_as, cell}, Scopes.{Fits, both_left, both_right}, Soundness.{soundness, composite_there, characters_lie}, Statements.{stored, composed, assigned}, StatementSound.{StatementSound, made_sound}, Values.typed}
-use Rattle.lil_right_type.specs.{Found.{KindTold, LiesAt, GoesWith, IsPlaced, IsFound}, Parts.{no_kind, array_is, has_nil_is, whole_is, or_of}, Right.{Right, IsThere, is_so}, Sound.{stored_sound, target_sound}, Typed.{Stores, either, assignable_stores}, Types.{IsTold, HasSpan, known_ordinal, span_is}}
-use Rattle.lil_right_call.specs.Wholes.{IsWhole, IsSpelled, whole_or_spelled}
+use Rattle.lil_forms.specs.{Places.{located_in, cell_as, cell}, Scopes.Fits, Soundness.{soundness, composite_there, characters_lie}, Statements.{stored, composed, assigned}, StatementSound.{StatementSound, made_sound}, Values.typed}
+use Rattle.lil_right_type.specs.{Found.{KindTold, LiesAt, GoesWith, IsPlaced, IsFound}, Parts.no_kind, Right.{Right, IsThere, is_so}, Sound.{stored_sound, target_sound}, Typed.{Stores, assignable_stores}, Types.IsTold}
+use Rattle.lil_right_call.specs.Wholes.{characters_are, IsWhole, IsSpelled, whole_or_spelled}
 use Rattle.lil_check_stmt.specs.Nodes.{takes, outside, assign_node}
 
 -- ---- places
-same_count : (z : ℤ) → kinds.nat_of z ≡ types.nat_of z
-same_count (pos n) = refl
-same_count (negsuc n) = refl
-
 pub equal : (m n : ℕ) → m ≡ n → (m == n) ≡ true
 equal m n h = grind (arith, nat_tests)
-
-at_most : (m n : ℕ) → nat_le m n ≡ true → m ≤ n
-at_most m n h = grind (arith, nat_tests)
-
-module _ (t : Table) (told : IsTold t) where
-  -- ---- strings: an array that holds a text has as many characters
-  record HasCharacters (s n : ℕ) : Type 0 where
-    parts : shaped.ArrayParts
-    array : array_at t s ≡ Some parts
-    element : parts.element ≡ char
-    count : ℕ
-    many : elements_at t s ≡ Some count
-    fits : nat_le n count ≡ true
-
-  characters_are : (s n : ℕ) → holds t s n ≡ true → HasCharacters s n
-  unfolding holds
-  characters_are s n h = by (array_parts t s) refl h
-    where
-      by : (o : Option ArrayParts) → array_parts t s ≡ o → holds_by t o n ≡ true → HasCharacters s n
-      by None is h = cc
-      by (Some p) is h =
-          let a = array_is t told s p is in
-          let o = known_ordinal t told p.index a.span.0 a.span.1 in
-          let room : nat_le n (values a.span.0) ≡ true = sym (ap (λ o. has_room o n) (span_is t told p.index ∙ a.span.1)) ∙ both_right (p.element == char) _ h in
-          let many : numbers_of o.kind ≡ values a.span.0 = (λ i. kinds.nat_of ((o.greatest i -ℤ o.least i) +ℤ pos 1)) ∙ same_count ((a.span.0.high -ℤ a.span.0.low) +ℤ pos 1) in
-          record {
-            parts = record { index = p.index; element = p.element };
-            array = a.at;
-            element = same_sort p.element char (both_left (p.element == char) _ h);
-            count = numbers_of o.kind;
-            many = ap (elements_in t) a.at ∙ ap (option_map numbers_of) o.at;
-            fits = ap (nat_le n) many ∙ room;
-          }
 
 module _ {t : Table} {vs : RNamed → Option RVar} {around : List ℕ} {R : Reach} {ts : Scope} (fits : Fits t vs around R ts) (told : IsTold t) (looping : Bool) where
   abbrev Made : Option RStmt → Type 0
@@ -70,7 +28,7 @@ module _ {t : Table} {vs : RNamed → Option RVar} {around : List ℕ} {R : Reac
   module _ (p : Located) (at : ℕ) (n : ℕ) (few : n ≤ 12) (lies : LiesAt (soundness fits) at n p) where
     -- ---- arrays and records as wholes
     module _ (composite : composite_at t p.sort ≡ true) where
-      whole_composed : (d : ℕ) (f : Form) → d ≤ 12 → IsWhole (soundness fits) told p.sort composite d f → Made (composed p f)
+      whole_composed : (d : ℕ) (f : Form) → d ≤ 12 → IsWhole (soundness fits) told p.sort (no_kind t told p.sort composite) d f → Made (composed p f)
       whole_composed d f low v = subst (λ f. Made (composed p f)) (sym v.is) (made_sound ts looping _ _ (copy_is p.place v.at.place) (record {
         same = same_Some (shape_of ts (place_of v.at.place)) (shape_of ts (place_of p.place)) (sym v.lies.good.shape ∙ ap (slice_get fits.shapes) v.lies.sort ∙ lies.good.shape);
         there = composite_there fits p lies.good composite;
@@ -80,13 +38,13 @@ module _ {t : Table} {vs : RNamed → Option RVar} {around : List ℕ} {R : Reac
         source_shallow = omega (arith, low, v.lies.deep);
       }))
 
-      spelled_composed : (kind : Kind) (f : Form) → IsSpelled (soundness fits) told p.sort composite kind f → Made (composed p f)
+      spelled_composed : (kind : Kind) (f : Form) → IsSpelled (soundness fits) told p.sort (no_kind t told p.sort composite) kind f → Made (composed p f)
       spelled_composed kind f v = subst (λ f. Made (composed p f)) (sym v.is)
           (let a = characters_are t told p.sort v.characters.length v.fits in
           made_sound ts looping _ _ (text_is p.place v.text) (record {
             count = a.count;
             shape = characters_lie fits p a.parts a.count lies.good a.array a.element a.many;
-            fits = subst (λ n. n ≤ a.count) (sym v.holds_it.0) (at_most v.characters.length a.count a.fits);
+            fits = subst (λ n. n ≤ a.count) (sym v.holds_it.0) a.fits;
             text = v.holds_it.1;
             place = lies.good.good;
             shallow = omega (arith, few, lies.deep);
@@ -107,7 +65,7 @@ module _ {t : Table} {vs : RNamed → Option RVar} {around : List ℕ} {R : Reac
 
         by : (c : Bool) → composite_at t p.sort ≡ c → Made (if c then composed p v.form else stored (cell t (Some p)) (typed t p.sort v))
         by false is = scalar (kind_at t p.sort) refl is
-        by true is = elim (whole_or_spelled (soundness fits) told p.sort is v.depth v.kind v.form h.kind h.form so) [
+        by true is = elim (whole_or_spelled (soundness fits) told p.sort (no_kind t told p.sort is) v.depth v.kind v.form h.kind h.form so) [
           | inl e ↦ whole_composed is v.depth v.form h.few e
           | inr e ↦ spelled_composed is v.kind v.form e
         ]

@@ -199,7 +199,7 @@ module _ (t : Table) (told : IsTold t) where
   constant_told k.Nil h c is = absurd (none-some c is)
   constant_told (k.Of s) h c is = absurd (none-some c is)
   constant_told (k.Open s) h c is = absurd (none-some c is)
-  constant_told (k.Routine s) h c is = absurd h
+  constant_told (k.Routine s) h c is = absurd (none-some c is)
 
   -- it is no text
   pub no_text : (a : Kind) (text : List ℕ) → constant t a ≡ Some (const.Chars text) → ⊥

@@ -1,5 +1,5 @@
 -- What is told of values: their kinds, and the forms that go with them.
-use Rattle.std.specs.Prelude.{◌≡◌, ℕ, ◌+◌, ◌≤◌, pos, negsuc, Bool, true, false, List, [], ◌∷◌, length, slice_get, Option, Some, None}
+use Rattle.std.specs.Prelude.{◌≡◌, ℕ, ◌+◌, ◌<◌, ◌≤◌, pos, negsuc, Bool, true, false, List, [], ◌∷◌, length, slice_get, Option, Some, None}
 use Rattle.lil_base.specs.Words.{between}
 use Rattle.lil_types.specs.{Types.{Table, base, char, cardinal, integer, address, proc, process}, declared.table.Parameter.Parameter}
 use Rattle.lil_declared.specs.declared.{declared.RVar.RVar, standard.Resident.Resident}
@@ -15,6 +15,7 @@ use Rattle.lil_resolved.specs.declared.resolved.RBase.TheVariants as b
 use Rattle.lil_shapes.specs.{Bases.{base_at, kind_at}, ListLaws.AllFine, Operators.has_number, Pointers.lies_at}
 use Rattle.lil_forms.specs.{Properties.{Property, Reach, nothing, value_kind}, Variables.{passing_by, seen}}
 use Rattle.lil_right_type.specs.{Homes.{IsPlain, IsSeen, Homed, Stands}, Types.IsTold, Words.AreMeasured}
+pub use Rattle.lil_right_type.specs.Types.{ResultTold}
 
 -- ---- kinds
 -- a base whose constants are told by their words
@@ -27,12 +28,13 @@ is_scalar (b.Enumeration n) = true
 is_scalar b.Set = true
 is_scalar (b.Pointer n) = false
 is_scalar b.Address = false
+is_scalar (b.Procedure n) = false
 
 -- a word is that of a value of a type
 abbrev pub HasWord : Table → ℕ → ℕ → Type 0
 HasWord t s w = (b : RBase) × (base_at t (base t s) ≡ Some b) × (is_scalar b ≡ true) × (has_number b (pos w) ≡ true)
 
--- constants are within their types, and something lies in a variable of a value's type, or in each element of an open array. There are no procedures
+-- constants are within their types, and something lies in a variable of a value's type, or in each element of an open array
 abbrev pub KindTold : Table → Kind → Type 0
 KindTold t (k.Whole z) = between (negsuc 32767) z (pos 65535) ≡ true
 KindTold t (k.Scalar s w) = HasWord t s w
@@ -40,7 +42,7 @@ KindTold t (k.Chars c) = c.first ≤ 255
 KindTold t k.Nil = Unit {0}
 KindTold t (k.Of s) = lies_at t s ≡ true
 KindTold t (k.Open s) = lies_at t s ≡ true
-KindTold t (k.Routine s) = ⊥
+KindTold t (k.Routine s) = Unit {0}
 
 -- ---- forms
 abbrev pub TextTold : Chars → List ℕ → Type 0
@@ -73,6 +75,11 @@ module _ {t : Table} {vs : RNamed → Option RVar} {around : List ℕ} {R : Reac
     pub sort : a.sort ≡ s
     pub good : P.array a
 
+  -- a procedure of a type that no other one declares, whose number from 1 is a byte
+  pub record IsProcedure (s n : ℕ) : Type 0 where
+    pub reached : R s n 0
+    pub low : n < 255
+
   -- a form goes with a kind at a depth
   abbrev pub GoesWith : ℕ → Kind → Form → Type 0
   GoesWith d (k.Whole z) f = Unit {0}
@@ -82,18 +89,26 @@ module _ {t : Table} {vs : RNamed → Option RVar} {around : List ℕ} {R : Reac
   GoesWith d (k.Chars c) (form.Located p) = ⊥
   GoesWith d (k.Chars c) (form.Open a) = ⊥
   GoesWith d (k.Chars c) (form.Value x) = ⊥
+  GoesWith d (k.Chars c) (form.Routine n) = ⊥
   GoesWith d k.Nil f = Unit {0}
   GoesWith d (k.Of s) form.Nothing = ⊥
   GoesWith d (k.Of s) (form.Text cs) = ⊥
   GoesWith d (k.Of s) (form.Located p) = LiesAt s d p
   GoesWith d (k.Of s) (form.Open a) = ⊥
   GoesWith d (k.Of s) (form.Value x) = IsValue s d x
+  GoesWith d (k.Of s) (form.Routine n) = ⊥
   GoesWith d (k.Open s) form.Nothing = ⊥
   GoesWith d (k.Open s) (form.Text cs) = ⊥
   GoesWith d (k.Open s) (form.Located p) = ⊥
   GoesWith d (k.Open s) (form.Open a) = OpensAt s a
   GoesWith d (k.Open s) (form.Value x) = ⊥
-  GoesWith d (k.Routine s) f = ⊥
+  GoesWith d (k.Open s) (form.Routine n) = ⊥
+  GoesWith d (k.Routine s) form.Nothing = ⊥
+  GoesWith d (k.Routine s) (form.Text cs) = ⊥
+  GoesWith d (k.Routine s) (form.Located p) = ⊥
+  GoesWith d (k.Routine s) (form.Open a) = ⊥
+  GoesWith d (k.Routine s) (form.Value x) = ⊥
+  GoesWith d (k.Routine s) (form.Routine n) = IsProcedure s n
 
   pub bare : (d : ℕ) (kind : Kind) (f : Form) → IsBare kind → GoesWith d kind f
   bare d (k.Whole z) f h = tt
@@ -107,6 +122,7 @@ IsLocated (form.Text cs) = ⊥
 IsLocated (form.Located p) = Unit {0}
 IsLocated (form.Open a) = ⊥
 IsLocated (form.Value x) = ⊥
+IsLocated (form.Routine n) = ⊥
 
 -- a place, or an open array
 abbrev pub IsPlaced : Kind → Form → Type 0
@@ -139,11 +155,6 @@ IsKnown e a = IsFound (nothing e.types (seen e) e.withs (reach e)) a
 -- something lies in what is handed over, or in each element of an open array
 abbrev pub ParameterTold : Table → Parameter → Type 0
 ParameterTold t p = lies_at t p.sort ≡ true
-
--- values of the type of a result have a kind
-abbrev pub ResultTold : Table → Option ℕ → Type 0
-ResultTold t None = Unit {0}
-ResultTold t (Some r) = (k : RKind) × (kind_at t r ≡ Some k)
 
 -- the type of a procedure with such parameters, and such a result if it is a function
 abbrev pub HeadingTold : Table → ℕ → Type 0

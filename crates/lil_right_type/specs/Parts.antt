@@ -3,14 +3,15 @@ use Rattle.std.proofs.Common.{◌≡◌, ℕ, zero, suc, ◌+◌, ◌<◌, Bool,
 use Rattle.std.specs.Prelude.{ℤ, pos, ◌≤ℤ◌, ◌==◌, ◌&&◌, int_lt, is_some}
 use Rattle.std.specs.Option.{option_map}
 use Rattle.std.proofs.lemmas.{Int.ints, Option.{none-some, same_Some}, Bool.Decides.nat_tests}
-use Rattle.lil_types.specs.{Types.{Table, entry, known, meant, base, is_whole, bit_set, proc, address, cardinal, integer, boolean, char}, declared.table.{Facts.Facts, Field.Field, TypeEntry.TypeEntry, TypeForm.{TypeForm, TheVariants.{Enumeration, Subrange, Array, Record, SetOf, Pointer, Procedure, Opaque}}}}
+use Rattle.lil_types.specs.{Types.{Table, entry, known, meant, base, is_whole, bit_set, proc, address, cardinal, integer, boolean, char}, Fields.{same_name, field_from}, declared.{table.{Facts.Facts, Field.Field, Parameter.Parameter, TypeEntry.TypeEntry, TypeForm.{TypeForm, TheVariants.{Enumeration, Subrange, Array, Record, SetOf, Pointer, Procedure, Opaque}}}, fields.FieldAt.FieldAt}}
 use Rattle.lil_types.specs.Types as types
-use Rattle.lil_kinds.specs.{Forms.{span_in, form_in, shape, of_form, is_form, array_of, array_parts, same_name, field_from, field_of, field, is_record_form, is_record, target_of, target, is_opaque_form, is_opaque, has_nil, set_of, set_base, is_routine_form, is_routine}, declared.forms.FieldAt.FieldAt}
+use Rattle.lil_kinds.specs.{Forms.{span_in, form_in, shape, of_form, is_form, array_of, array_parts, field_of, field, is_record_form, is_record, target_of, target, is_opaque_form, is_opaque, has_nil, set_of, set_base, is_routine_form, is_routine, parameters_in, parameters, result_of, result}, Kinds.{same_parameter, same_parameters, same_result, conforms}}
 use Rattle.lil_kinds.specs.declared.forms.ArrayParts as checked
 use Rattle.lil_resolved.specs.{Kinds.{is_ordinal, is_element, least, greatest}, Views.{base_view, kind_view}, declared.resolved.{RBase.RBase, RKind.RKind}}
 use Rattle.lil_resolved.specs.declared.resolved.RBase.TheVariants as b
 use Rattle.lil_shapes.specs.{BaseLaws.same_sort, declared.members.Members.Members, Bases.{plain, base_by, base_form, base_at, kind_form, kind_by, kind_over, kind_at, composite_at, composite_by, array_by, array_at, field_by, field_at, field_sort, bits, members_with, members_by, members_at}, ListLaws.AllFine, Pointers.{lies_at, pointed, pointed_by}}
-use Rattle.lil_right_type.specs.Types.{FormTold, IsTold, IsOrdinal, HasSpan, meant_is, entry_base, own_base, known_ordinal, kind_is, entry_high, entry_known, no_entry, standard_whole}
+use Rattle.lil_forms.specs.Scopes.{both_left, both_right}
+use Rattle.lil_right_type.specs.Types.{FormTold, IsTold, PassedTold, ResultTold, IsOrdinal, HasSpan, meant_is, entry_base, own_base, known_ordinal, kind_is, entry_high, entry_known, no_entry, standard_whole}
 
 -- ---- a part of a form that is there
 formed : {A : Type 0} (part : TypeForm → Option A) (o : Option TypeEntry) (x : A) → of_form part (form_in o) ≡ Some x → (e : TypeEntry) × (o ≡ Some e) × (part e.form ≡ Some x)
@@ -63,6 +64,14 @@ pub record IsSet (t : Table) (n m : ℕ) : Type 0 where
   pub kind : kind_at t n ≡ Some (plain b.Set)
   pub set : base_at t n ≡ Some b.Set
 
+-- a procedure type: what its procedures are handed, and what they return
+pub record IsRoutine (t : Table) (n : ℕ) : Type 0 where
+  pub own : base t n ≡ n
+  pub kind : kind_at t n ≡ Some (plain (b.Procedure n))
+  pub base : base_at t n ≡ Some (b.Procedure n)
+  pub passed : AllFine (PassedTold t) (parameters t n)
+  pub returned : ResultTold t (result t n)
+
 few_members : (low high : ℤ) → pos 0 ≤ℤ low → high ≤ℤ pos 15 → (not (int_lt low (pos 0)) ≡ true) × (not (int_lt (pos 15) high) ≡ true)
 few_members low high h j = (grind (arith, ints), grind (arith, ints))
 
@@ -87,7 +96,7 @@ module _ (t : Table) (told : IsTold t) where
       in_form e (Record xs) is same j at = absurd (none-some k at)
       in_form e (SetOf m) is same j at = (j.0, refl)
       in_form e (Pointer m) is same j at = (j.0, refl)
-      in_form e (Procedure ps r) is same j at = absurd (none-some k at)
+      in_form e (Procedure ps r) is same j at = (j.0, refl)
       in_form e (Opaque o) is same j at = absurd j
 
       by : (o : Option TypeEntry) → entry t n ≡ o → Own
@@ -116,7 +125,7 @@ module _ (t : Table) (told : IsTold t) where
       in_form e (Record xs) is same j = no_form e is j.0 (ap (base_form n) same)
       in_form e (SetOf m) is same j = (plain k, kind_is t told n e k (plain k) is h (ap (kind_form k) same), refl)
       in_form e (Pointer m) is same j = (plain k, kind_is t told n e k (plain k) is h (ap (kind_form k) same), refl)
-      in_form e (Procedure ps r) is same j = no_form e is j.0 (ap (base_form n) same)
+      in_form e (Procedure ps r) is same j = (plain k, kind_is t told n e k (plain k) is h (ap (kind_form k) same), refl)
       in_form e (Opaque o) is same j = absurd j
 
       by : (o : Option TypeEntry) → entry t n ≡ o → Kind
@@ -285,22 +294,78 @@ module _ (t : Table) (told : IsTold t) where
           let found = formed set_of (entry t n) m (sym (ap (λ k. if k == bit_set then Some cardinal else of_form set_of (shape t n)) (meant_is t told n) ∙ ap (λ c. if c then Some cardinal else of_form set_of (shape t n)) is ∙ ap (of_form set_of) (shape_is n)) ∙ h) in
           by found.0 found.0.form is found.1 refl (told n found.0 found.1) found.2
 
-  -- ---- procedure types: nothing lies in their variables
-  pub routine_is : (n : ℕ) → is_routine t n ≡ true → lies_at t n ≡ false
-  unfolding is_routine
+  -- ---- procedure types
+  pub routine_is : (n : ℕ) → is_routine t n ≡ true → IsRoutine t n
+  unfolding is_routine parameters result
   routine_is n h = at (n == proc) refl
     where
-      by : (e : TypeEntry) (form : TypeForm) → entry t n ≡ Some e → e.form ≡ form → FormTold t n e.facts form → is_routine_form form ≡ true → lies_at t n ≡ false
+      by : (e : TypeEntry) (form : TypeForm) → entry t n ≡ Some e → e.form ≡ form → FormTold t n e.facts form → is_routine_form form ≡ true → IsRoutine t n
       by e (Procedure ps r) is same j of =
-          let base : base_at t (base t n) ≡ None = ap (base_at t) (entry_base t told n e is ∙ j.0) ∙ ap (base_by n) is ∙ ap (base_form n) same in
-          λ i. is_some (ap (λ o. kind_over o (entry t n)) base i) || (ap composite_by is ∙ ap (λ form. composite_by (Some (record e { form = form }))) same) i
+          let base : base_at t n ≡ Some (b.Procedure n) = ap (base_by n) is ∙ ap (base_form n) same in
+          let form : shape t n ≡ Some (Procedure ps r) = shape_is n ∙ ap form_in is ∙ ap Some same in
+          record {
+            own = (base_itself n (b.Procedure n) base).0;
+            kind = (base_itself n (b.Procedure n) base).1;
+            base = base;
+            passed = subst (λ o. AllFine (PassedTold t) (parameters_in o)) (sym form) j.2;
+            returned = subst (λ o. ResultTold t (of_form result_of o)) (sym form) j.3;
+          }
       by e _ is same j of = absurd (true≢false (sym of))
 
-      at : (c : Bool) → (n == proc) ≡ c → lies_at t n ≡ false
-      at true is = ap (lies_at t) (same_sort n proc is)
+      proc_is : IsRoutine t proc
+      proc_is =
+          let form : shape t proc ≡ None = shape_is proc in
+          record {
+            own = own_base t told proc refl;
+            kind = (base_itself proc (b.Procedure proc) refl).1;
+            base = refl;
+            passed = subst (λ o. AllFine (PassedTold t) (parameters_in o)) (sym form) tt;
+            returned = subst (λ o. ResultTold t (of_form result_of o)) (sym form) tt;
+          }
+
+      at : (c : Bool) → (n == proc) ≡ c → IsRoutine t n
+      at true is = subst (IsRoutine t) (sym (same_sort n proc is)) proc_is
       at false is =
           let found = is_formed is_routine_form (entry t n) (sym (ap (is_form is_routine_form) (shape_is n)) ∙ or_of (meant t n == proc) _ h (ap (λ m. m == proc) (meant_is t told n) ∙ is)) in
           by found.0 found.0.form found.1 refl (told n found.0 found.1) found.2
+
+  -- ---- procedures that are values of a procedure type
+  pub same_types : (m n : ℕ) → types.same t m n ≡ true → m ≡ n
+  same_types m n h = sym (meant_is t told m) ∙ same_sort (meant t m) (meant t n) h ∙ meant_is t told n
+
+  parameter_of : (by_place opened : Bool) (sort : ℕ) → Parameter
+  parameter_of by_place opened sort = record { by_place = by_place; open_array = opened; sort = sort }
+
+  parameter_same : (a b c d : Bool) (m n : ℕ) → same_parameter t (parameter_of a c m) (parameter_of b d n) ≡ true → parameter_of a c m ≡ parameter_of b d n
+  unfolding parameter_of
+  parameter_same true true true true m n h = ap (parameter_of true true) (same_types m n h)
+  parameter_same true true false false m n h = ap (parameter_of true false) (same_types m n h)
+  parameter_same false false true true m n h = ap (parameter_of false true) (same_types m n h)
+  parameter_same false false false false m n h = ap (parameter_of false false) (same_types m n h)
+  parameter_same _ _ _ _ m n h = absurd (true≢false (sym h))
+
+  parameters_same : (ps qs : List Parameter) → same_parameters t ps qs ≡ true → ps ≡ qs
+  unfolding parameter_of
+  parameters_same [] [] h = refl
+  parameters_same [] (q ∷ qs) h = absurd (true≢false (sym h))
+  parameters_same (p ∷ ps) [] h = absurd (true≢false (sym h))
+  parameters_same (p ∷ ps) (q ∷ qs) h =
+      let first : p ≡ q = parameter_same p.by_place q.by_place p.open_array q.open_array p.sort q.sort (both_left (same_parameter t p q) (same_parameters t ps qs) h) in
+      let rest : ps ≡ qs = parameters_same ps qs (both_right (same_parameter t p q) (same_parameters t ps qs) h) in
+      λ i. first i ∷ rest i
+
+  results_same : (r s : Option ℕ) → same_result t r s ≡ true → r ≡ s
+  results_same None None h = refl
+  results_same (Some m) (Some n) h = ap Some (same_types m n h)
+  results_same None (Some n) h = absurd (true≢false (sym h))
+  results_same (Some m) None h = absurd (true≢false (sym h))
+
+  pub conforms_is : (s n : ℕ) → conforms t s n ≡ true → IsRoutine t n × (parameters t s ≡ parameters t n) × (result t s ≡ result t n)
+  unfolding conforms
+  conforms_is s n h =
+      let to = both_right (is_routine t s) _ h in
+      let alike = both_right (is_routine t n) _ to in
+      (routine_is n (both_left (is_routine t n) _ to), parameters_same (parameters t s) (parameters t n) (both_left (same_parameters t (parameters t s) (parameters t n)) _ alike), results_same (result t s) (result t n) (both_right (same_parameters t (parameters t s) (parameters t n)) _ alike))
 
   -- ---- whole types
   -- those below which INTEGER or CARDINAL lies have numbers

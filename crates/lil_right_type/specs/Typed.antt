@@ -1,5 +1,5 @@
 -- Told values as operands: what goes with a type has an expression of the type's base.
-use Rattle.std.proofs.Common.{◌≡◌, ℕ, ◌+◌, ◌≤◌, Bool, true, false, not, ◌&&◌, ◌||◌, List, Option, Some, None, if◌then◌else◌, refl, sym, ap, subst, ◌∙◌, arith, true≢false, ◌⊎◌, inl, inr}
+use Rattle.std.proofs.Common.{◌≡◌, ℕ, ◌+◌, ◌<◌, ◌≤◌, Bool, true, false, not, ◌&&◌, ◌||◌, List, Option, Some, None, if◌then◌else◌, refl, sym, ap, subst, ◌∙◌, arith, true≢false, ◌⊎◌, inl, inr}
 use Rattle.std.specs.Prelude.{ℤ, pos, negsuc, ◌≤ℤ◌, ◌==◌, int_lt, nat_lt}
 use Rattle.std.proofs.lemmas.{Int.ints, Option.{none-some, same_Some}, Bool.Decides.nat_tests}
 use Rattle.lil_base.specs.{Laws.{bounds, in_range}, Words.{between, Cardinal, Integer}}
@@ -13,13 +13,13 @@ use Rattle.lil_kinds.specs.{Forms.{span_of, array_parts}, Kinds.{suits, compatib
 use Rattle.lil_kinds.specs.declared.forms.ArrayParts as checked
 use Rattle.lil_kinds.specs.declared.found.Form.TheVariants as form
 use Rattle.lil_resolved.specs.Bases as Bases
-use Rattle.lil_resolved.specs.{Bases.own_base, Kinds.{is_base, is_ordinal, takes_value, stores_value, base_of, alike, same_pointer}, Resolved.kind_of, Sizes.{depth}, Views.{base_view, kind_view, ranged_view, expression_of, constant_is, taken_is}, declared.resolved.{RBase.RBase, RExpr.RExpr, RKind.RKind, RNamed.RNamed, RRange.RRange}}
+use Rattle.lil_resolved.specs.{Bases.own_base, Kinds.{is_base, is_ordinal, takes_value, stores_value, base_of, alike, same_pointer, same_procedures}, Resolved.kind_of, Sizes.{depth}, Views.{base_view, kind_view, ranged_view, expression_of, constant_is, taken_is, routine_is}, declared.resolved.{RBase.RBase, RExpr.RExpr, RKind.RKind, RNamed.RNamed, RRange.RRange}}
 use Rattle.lil_resolved.specs.Kinds as kinds
 use Rattle.lil_resolved.specs.declared.resolved.RBase.TheVariants as b
 use Rattle.lil_resolved.specs.declared.resolved.RExpr.TheVariants as e
-use Rattle.lil_shapes.specs.{BaseLaws.{same_sort, base_words, kind_base}, Bases.{base_at, kind_at, kind_form, kind_over}, Operators.has_number}
-use Rattle.lil_forms.specs.{Scopes.{both_left, both_right}, Properties.{Property, Reach, value_kind}, Values.{constant, taken_as, own, typed_by, typed}}
-use Rattle.lil_right_type.specs.{Found.{is_scalar, HasWord, KindTold, GoesWith, IsFound}, Parts.{has_kind, no_kind, array_is, whole_is}, Right.IsThere, Types.{IsTold, FormTold, IsOrdinal, HasSpan, known_ordinal, span_is, entry_known}}
+use Rattle.lil_shapes.specs.{BaseLaws.{same_sort, base_words, kind_base}, Bases.{plain, base_at, kind_at, kind_form, kind_over}, Operators.has_number}
+use Rattle.lil_forms.specs.{Scopes.{both_left, both_right}, Properties.{Property, Reach, value_kind}, Values.{constant, taken_as, own, routine_by, typed_by, typed}}
+use Rattle.lil_right_type.specs.{Found.{is_scalar, HasWord, KindTold, GoesWith, IsFound}, Parts.{has_kind, no_kind, array_is, conforms_is, whole_is}, Right.IsThere, Types.{IsTold, FormTold, IsOrdinal, HasSpan, known_ordinal, span_is, entry_known}}
 
 module _ {t : Table} {vs : RNamed → Option RVar} {around : List ℕ} {R : Reach} (P : Property t vs around R) where
   -- an expression of a base with the property, whose code takes at most a word more than so many
@@ -57,6 +57,9 @@ module _ {t : Table} {vs : RNamed → Option RVar} {around : List ℕ} {R : Reac
   pub base_yields : (o : Option RBase) (k : RBase) (z : ℤ) (d : ℕ) → o ≡ Some k → has_number k z ≡ true → IsThere (Yields P k d) (constant o z)
   base_yields o k z d is h = subst (λ o. IsThere (Yields P k d) (constant o z)) (sym is) (constant_yields k z d h)
 
+byte : (n : ℕ) → n < 255 → nat_lt n 255 ≡ true
+byte n h = grind (arith, nat_tests)
+
 pub is_character_number : (c : ℕ) → c ≤ 255 → has_number b.Character (pos c) ≡ true
 is_character_number c h = in_range (pos 0) (pos c) (pos 255) (omega (arith, ints)) (omega (arith, ints))
 
@@ -75,7 +78,7 @@ below_two n h = by (n == 0) (n == 1) refl refl
     by false false e f = absurd (grind (arith, nat_tests, h, e, f))
 
 -- ---- kinds that take values of their own base
--- where it isn't a pointer's
+-- where it is neither a pointer's nor a procedure's
 takes_own : (k : RBase) → is_ordinal (base_view k) ≡ true → alike (base_view k) (base_view k) ≡ true
 takes_own b.Cardinal h = refl
 takes_own b.Integer h = refl
@@ -85,6 +88,7 @@ takes_own (b.Enumeration n) h = let same : (n == n) ≡ true = grind (arith, nat
 takes_own b.Set h = refl
 takes_own (b.Pointer n) h = cc
 takes_own b.Address h = cc
+takes_own (b.Procedure n) h = cc
 
 stores_plain : (k : RBase) → is_base (base_view k) ≡ true → stores_value (base_view k) (base_view k) ≡ true
 stores_plain b.Cardinal h = refl
@@ -95,6 +99,7 @@ stores_plain (b.Enumeration n) h = let same : (n == n) ≡ true = grind (arith, 
 stores_plain b.Set h = refl
 stores_plain (b.Pointer n) h = grind (arith, nat_tests)
 stores_plain b.Address h = refl
+stores_plain (b.Procedure n) h = grind (arith, nat_tests)
 
 pub takes_base : (j : RKind) → is_ordinal (base_view j.base) ≡ true → takes_value (kind_view j) (base_view j.base) ≡ true
 takes_base j h = ap (λ k. alike k (base_view j.base)) (own_base j) ∙ takes_own j.base h
@@ -108,17 +113,20 @@ module _ {t : Table} {vs : RNamed → Option RVar} {around : List ℕ} {R : Reac
   pub yields_suits : (j : RKind) (d : ℕ) (o : Option RExpr) → is_ordinal (base_view j.base) ≡ true → IsThere (Yields P j.base d) o → IsThere (Suits P j d) o
   yields_suits j d o h = mapped (Yields P j.base d) (Suits P j d) o (λ x y. (ap (takes_value (kind_view j)) y.0 ∙ takes_base j h, y.1, y.2))
 
-  -- what is stored where no pointer lies is taken there
+  -- what is stored where neither a pointer nor a procedure lies is taken there
   pub stores_suits : (j : RKind) (d : ℕ) (o : Option RExpr) → is_ordinal (base_view j.base) ≡ true → IsThere (Stores P j d) o → IsThere (Suits P j d) o
   stores_suits j d o h = mapped (Stores P j d) (Suits P j d) o (λ x y. (taken j.base j.range (value_kind x) h y.0, y.1, y.2))
     where
       taken : (k : RBase) (r : Option RRange) (v : kinds.Kind) → is_ordinal (base_view k) ≡ true → stores_value (ranged_view (base_view k) r) v ≡ true → takes_value (ranged_view (base_view k) r) v ≡ true
-      taken k r v ord is = elim (either (takes_value (ranged_view (base_view k) r) v) (same_pointer (ranged_view (base_view k) r) v) is) [
+      taken k r v ord is = elim (either (takes_value (ranged_view (base_view k) r) v) (other (ranged_view (base_view k) r)) is) [
         | inl e ↦ e
         | inr e ↦ absurd (true≢false (sym e ∙ none k r ord))
       ]
         where
-          none : (k : RBase) (r : Option RRange) → is_ordinal (base_view k) ≡ true → same_pointer (ranged_view (base_view k) r) v ≡ false
+          other : kinds.Kind → Bool
+          other j = same_pointer j v || same_procedures j v
+
+          none : (k : RBase) (r : Option RRange) → is_ordinal (base_view k) ≡ true → other (ranged_view (base_view k) r) ≡ false
           none k (Some r) h = refl
           none b.Cardinal None h = refl
           none b.Integer None h = refl
@@ -128,6 +136,7 @@ module _ {t : Table} {vs : RNamed → Option RVar} {around : List ℕ} {R : Reac
           none b.Set None h = refl
           none (b.Pointer n) None h = cc
           none b.Address None h = cc
+          none (b.Procedure n) None h = cc
 
 module _ (t : Table) (told : IsTold t) where
   -- ---- a kind with a range is one of numbers
@@ -147,7 +156,7 @@ module _ (t : Table) (told : IsTold t) where
       in_form k e (Record xs) is at f of = absurd (none-some j of)
       in_form k e (SetOf m) is at f of = subst Ranged (same_Some _ j of) (inl refl)
       in_form k e (Pointer m) is at f of = subst Ranged (same_Some _ j of) (inl refl)
-      in_form k e (Procedure ps r) is at f of = absurd (none-some j of)
+      in_form k e (Procedure ps r) is at f of = subst Ranged (same_Some _ j of) (inl refl)
       in_form k e (Opaque o) is at f of = absurd f
 
       by : (o : Option RBase) → base_at t (base t n) ≡ o → (p : Option TypeEntry) → entry t n ≡ p → kind_over o p ≡ Some j → Ranged j
@@ -211,7 +220,7 @@ module _ (t : Table) (told : IsTold t) where
 
 module _ {t : Table} {vs : RNamed → Option RVar} {around : List ℕ} {R : Reach} (P : Property t vs around R) (told : IsTold t) where
   -- ---- values of types
-  own_yields : (r : ℕ) (g : RBase) (d : ℕ) (f : Form) → base_at t (base t r) ≡ Some g → GoesWith P d (k.Of r) f → IsThere (Yields P g d) (own t f)
+  pub own_yields : (r : ℕ) (g : RBase) (d : ℕ) (f : Form) → base_at t (base t r) ≡ Some g → GoesWith P d (k.Of r) f → IsThere (Yields P g d) (own t f)
   own_yields r g d form.Nothing is h = h
   own_yields r g d (form.Text cs) is h = h
   own_yields r g d (form.Located p) is h =
@@ -223,6 +232,7 @@ module _ {t : Table} {vs : RNamed → Option RVar} {around : List ℕ} {R : Reac
   own_yields r g d (form.Value x) is h =
       let j = has_kind t told r g is in
       (h.kind ∙ ap (λ (j : RKind). base_view j.base) (same_Some h.as_kind j.0 (sym h.at ∙ j.1)) ∙ ap base_view j.2, h.deep, h.good)
+  own_yields r g d (form.Routine n) is h = absurd h
 
   -- what is compatible with a type that has a base is a value of this base
   pub kind_yields : (s : ℕ) (g : RBase) (d : ℕ) (kind : Kind) (f : Form) → base_at t (base t s) ≡ Some g → KindTold t kind → GoesWith P d kind f → suits t s kind ≡ true → IsThere (Yields P g d) (typed_by t s kind f)
@@ -238,7 +248,7 @@ module _ {t : Table} {vs : RNamed → Option RVar} {around : List ℕ} {R : Reac
   kind_yields s g d k.Nil f is fine goes h = base_yields P (base_at t (base t s)) g (pos 0) d is (zero_number g)
   kind_yields s g d (k.Of r) f is fine goes h = own_yields r g d f (sym (ap (base_at t) (same_sort (base t s) (base t r) h)) ∙ is) goes
   kind_yields s g d (k.Open r) f is fine goes h = cc
-  kind_yields s g d (k.Routine r) f is fine goes h = absurd fine
+  kind_yields s g d (k.Routine r) f is fine goes h = cc
 
   pub suits_yields : (s : ℕ) (g : RBase) (a : Found) → base_at t (base t s) ≡ Some g → IsFound P a → suits t s a.kind ≡ true → IsThere (Yields P g a.depth) (typed t s a)
   unfolding typed
@@ -268,7 +278,17 @@ module _ {t : Table} {vs : RNamed → Option RVar} {around : List ℕ} {R : Reac
       let other = whole_base t told (base t r) o.kind.base low o.base in
       mapped (Yields P o.kind.base d) (Stores P j d) (own t f) (λ x y. (both_whole t told j mine.0 other.0 (value_kind x) mine.1 (y.0 ∙ other.1), y.1, y.2)) (own_yields r o.kind.base d f o.base goes)
   passed_stores s j d (k.Open r) f at fine goes h out = cc
-  passed_stores s j d (k.Routine r) f at fine goes h out = absurd fine
+  passed_stores s j d (k.Routine r) (form.Routine n) at fine goes h out =
+      let c = conforms_is t told r s h in
+      let same : plain (b.Procedure s) ≡ j = same_Some _ j (sym c.0.kind ∙ at) in
+      subst (λ m. IsThere (Stores P j d) (routine_by m n)) (sym c.0.own)
+      (kept_if (Stores P j d) (nat_lt n 255) (e.Routine (n + 1) s) (byte n goes.low)
+      (subst (λ j. Stores P j d (e.Routine (n + 1) s)) same (
+        ap (stores_value (kinds.OfProcedure s)) (ap kind_of (routine_is (n + 1) s)) ∙ stores_plain (b.Procedure s) refl,
+        subst (λ a. depth a ≤ d + 1) (sym (routine_is (n + 1) s)) (omega arith),
+        P.routine r n s goes.reached c.0.base c.1 c.2,
+      )))
+  passed_stores s j d (k.Routine r) _ at fine goes h out = absurd goes
 
   pub assignable_stores : (s : ℕ) (j : RKind) (a : Found) → kind_at t s ≡ Some j → IsFound P a → assignable t s a.kind ≡ true → misses t s a.kind ≡ false → IsThere (Stores P j a.depth) (typed t s a)
   unfolding typed assignable compatible

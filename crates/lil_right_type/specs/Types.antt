@@ -1,8 +1,8 @@
 -- Tables of types that are told: what is known of each type agrees with its values, and something lies in each of its parts.
-use Rattle.std.proofs.Common.{◌≡◌, ℕ, zero, suc, ◌≤◌, ◌<◌, Bool, true, false, List, length, slice_get, Option, Some, None, if◌then◌else◌, refl, sym, ap, subst, ◌∙◌, arith}
+use Rattle.std.proofs.Common.{◌≡◌, ◌⊎◌, ℕ, zero, suc, ◌≤◌, ◌<◌, Bool, true, false, List, length, slice_get, Option, Some, None, if◌then◌else◌, refl, sym, ap, subst, ◌∙◌, arith}
 use Rattle.std.specs.Prelude.{ℤ, pos, ◌≤ℤ◌, ◌-ℤ◌, ◌-◌, ◌==◌, nat_lt, nat_le, min}
 use Rattle.std.proofs.lemmas.{Int.ints, Option.{none-some, same_Some}, Bool.Decides.nat_tests}
-use Rattle.lil_types.specs.{Types.{Table, entry, known, facts_in, enumeration_facts, other_of, meant_by, meant, base, is_whole, span, bit_set, proc, address, cardinal}, declared.table.{Facts.Facts, Field.Field, Span.Span, TypeEntry.TypeEntry, TypeForm.{TypeForm, TheVariants.{Enumeration, Subrange, Array, Record, SetOf, Pointer, Procedure, Opaque}}}}
+use Rattle.lil_types.specs.{Types.{Table, entry, known, facts_in, enumeration_facts, other_of, meant_by, meant, base, is_whole, span, bit_set, address, process, cardinal}, declared.table.{Facts.Facts, Field.Field, Parameter.Parameter, Span.Span, TypeEntry.TypeEntry, TypeForm.{TypeForm, TheVariants.{Enumeration, Subrange, Array, Record, SetOf, Pointer, Procedure, Opaque}}}}
 use Rattle.lil_types.specs.Types as types
 use Rattle.lil_kinds.specs.Forms.{span_in, span_of}
 use Rattle.lil_resolved.specs.{Kinds.{is_ordinal, least, greatest, larger, lesser}, Views.{base_view, kind_view}, declared.resolved.{RBase.RBase, RKind.RKind}}
@@ -23,6 +23,15 @@ pub record HasNumbers (t : Table) (n : ℕ) (u : Span) : Type 0 where
 abbrev pub HasSpan : Table → ℕ → Type 0
 HasSpan t n = (u : Span) × (span_in (known t n) ≡ Some u)
 
+-- something lies in what is handed over, or in each element of an open array. Those of PROCESS have no variables: nothing is handed over for them
+abbrev pub PassedTold : Table → Parameter → Type 0
+PassedTold t p = (lies_at t p.sort ≡ true) ⊎ (p.sort ≡ process)
+
+-- values of the type of a result have a kind
+abbrev pub ResultTold : Table → Option ℕ → Type 0
+ResultTold t None = Unit {0}
+ResultTold t (Some r) = (k : RKind) × (kind_at t r ≡ Some k)
+
 -- what is known of a type agrees with how it is built. No type of a program that runs is opaque
 abbrev pub FormTold : Table → ℕ → Facts → TypeForm → Type 0
 FormTold t n f (Enumeration xs) = (f ≡ enumeration_facts n (length xs)) × (1 ≤ length xs) × (length xs ≤ 65535)
@@ -31,7 +40,7 @@ FormTold t n f (Array i e) = (f.base ≡ n) × (f.span ≡ None) × HasSpan t i 
 FormTold t n f (Record xs) = (f.base ≡ n) × (f.span ≡ None) × AllFine (λ (x : Field). lies_at t x.sort ≡ true) xs
 FormTold t n f (SetOf m) = (f.base ≡ n) × (f.span ≡ None) × ((u : Span) × (span_in (known t m) ≡ Some u) × (pos 0 ≤ℤ u.low) × (u.high ≤ℤ pos 15))
 FormTold t n f (Pointer m) = (f.base ≡ n) × (f.span ≡ None) × (lies_at t m ≡ true)
-FormTold t n f (Procedure ps r) = (f.base ≡ n) × (f.span ≡ None)
+FormTold t n f (Procedure ps r) = (f.base ≡ n) × (f.span ≡ None) × AllFine (PassedTold t) ps × ResultTold t r
 FormTold t n f (Opaque o) = ⊥
 
 abbrev pub IsTold : Table → Type 0

@@ -3,12 +3,12 @@ use Rattle.std.proofs.Common.{◌≡◌, ℕ, zero, suc, ◌+◌, ◌∙◌, ap,
 use Rattle.std.specs.Prelude.{nat_lt, slice_set}
 use Rattle.lil_base.specs.declared.fault.Place.{Place}
 use Rattle.lil_text.specs.declared.tree.{Ident.Ident, Qualident.Qualident}
-use Rattle.lil_types.specs.Types.{Table}
+use Rattle.lil_types.specs.{Types.Table, declared.fields.FieldAt.FieldAt}
 use Rattle.lil_scope.specs.{declared.{env.Env.Env, scope.Scopes.Scopes, thing.{Entry.Entry, Thing.Thing}}, Built.built, Names.{Names, same, entry_in, thing_of, look_in, inner_or, block_at, find_in, find, member, is_new, bound, bound_at, chain}}
 use Rattle.lil_scope.specs.declared.thing.Thing.TheVariants as thing
 use Rattle.lil_shapes.specs.{Bases.field_at, ListLaws.AllFine, Pointers.lies_at}
 use Rattle.lil_forms.specs.Scopes.{fine_more}
-use Rattle.lil_kinds.specs.{Forms.field, declared.forms.FieldAt.FieldAt}
+use Rattle.lil_kinds.specs.Forms.{field}
 use Rattle.lil_check_value.specs.{declared.names.Looked.{Looked, TheVariants.{Nothing, Field, Thing as Named}}, Looks.{nearer, in_withs, nearest, looked_as, or_declared, look, type_node, module_node, member_type, type_by, type_named}}
 use Rattle.lil_right_type.specs.{Right.{Right, IsThere, after_right, is_so}, Found.{ThingTold, EnvTold}, Homes.{IsModule, Seen, found_procedure, found_variable, found_module, member_procedure, member_variable}, Parts.field_is}
 

@@ -26,6 +26,11 @@ use Rattle.lil_operators.specs.Operations as Operations
 use Rattle.lil_right_type.specs.{Folds.{GivenTold, AppliedTold, constant_told, no_text, folded_two_told, folded_one_told, applied_told}, Found.{KindTold, IsValue, GoesWith, IsFound}, Parts.{IsSet, base_itself, has_kind, has_nil_is, set_is}, Right.{Right, IsThere}, Typed.{Yields, either, below_two, kind_yields, suits_yields}}
 use Rattle.lil_right_type.specs.Types.{IsTold, FormTold, IsOrdinal, entry_base, own_base, ordinal_is, meant_is}
 
+-- what is compared by its number is compared
+is_compared : (g : RBase) → kinds.is_base (base_view g) ≡ true → kinds.is_ordinal (base_view g) ≡ true → kinds.is_compared (base_view g) ≡ true
+is_compared (b.Procedure n) base ordinal = ordinal
+is_compared _ base ordinal = base
+
 pub equal : (n : ℕ) → (n == n) ≡ true
 equal n = grind (arith, nat_tests)
 
@@ -257,16 +262,16 @@ module _ (t : Table) (told : IsTold t) where
             none_suit : compatible t a c ≡ true → sort_of a ≡ None → sort_of c ≡ None → (is_whole_constant a && is_whole_constant c) ≡ true
             none_suit suits is to = sym (λ l. compatible_by t (is l) (to l) a c) ∙ suits
 
-    references_told : ((g : RBase) → kinds.is_base (base_view g) ≡ true → (takes_two o (base_view g) ≡ true) × (result_base o g ≡ b.Truth)) → are_references t a c ≡ true → TwoTold o a c boolean
+    references_told : ((g : RBase) → kinds.is_compared (base_view g) ≡ true → (takes_two o (base_view g) ≡ true) × (result_base o g ≡ b.Truth)) → are_references t a c ≡ true → TwoTold o a c boolean
     unfolding are_references
     references_told takes h = elim (has_nil_is t told (common a c) (both_right (compatible t a c) _ h)) [
-      | inl e ↦ of (b.Pointer (common a c)) (ap (base_at t) e.1.own ∙ e.1.base)
-      | inr e ↦ of b.Address (ap (λ s. base_at t (base t s)) e ∙ ap (base_at t) (own_base t told address refl))
+      | inl e ↦ of (b.Pointer (common a c)) refl (ap (base_at t) e.1.own ∙ e.1.base)
+      | inr e ↦ of b.Address refl (ap (λ s. base_at t (base t s)) e ∙ ap (base_at t) (own_base t told address refl))
     ]
       where
-        of : (g : RBase) → base_at t (base t (common a c)) ≡ Some g → TwoTold o a c boolean
-        of g is =
-            let w = takes g (base_words t (base t (common a c)) g is) in
+        of : (g : RBase) → kinds.is_compared (base_view g) ≡ true → base_at t (base t (common a c)) ≡ Some g → TwoTold o a c boolean
+        of g compared is =
+            let w = takes g compared in
             alike_told boolean (are_alike a c g no_wholes (both_left (compatible t a c) _ h) is) w.0 (truth_at ∙ ap Some (sym w.1))
 
     are_of_sets : are_sets t a c ≡ true → (r m : ℕ) × (common a c ≡ r) × IsSet t r m × (suits t r a ≡ true) × (suits t r c ≡ true)
@@ -304,10 +309,10 @@ module _ (t : Table) (told : IsTold t) where
         by true is = wholes_told takes is
         by false is = where_told _ (are_sets t a c) (common a c) (sets_told (common a c) set (set_result (result_base o b.Set) result))
 
-    compared_told : ((g : RBase) → kinds.is_base (base_view g) ≡ true → (takes_two o (base_view g) ≡ true) × (result_base o g ≡ b.Truth)) → takes_two o kinds.OfSet ≡ true → Told (gives_where (are_comparable t a c) boolean)
+    compared_told : ((g : RBase) → kinds.is_compared (base_view g) ≡ true → (takes_two o (base_view g) ≡ true) × (result_base o g ≡ b.Truth)) → takes_two o kinds.OfSet ≡ true → Told (gives_where (are_comparable t a c) boolean)
     unfolding are_comparable
     compared_told takes set = where_told _ (are_comparable t a c) boolean (λ h. elim (either (are_ordinals t a c) _ h) [
-      | inl e ↦ ordinals_told (λ g base ordinal. takes g base) e
+      | inl e ↦ ordinals_told (λ g base ordinal. takes g (is_compared g base ordinal)) e
       | inr e ↦ elim (either (are_references t a c) (are_sets t a c) e) [
         | inl e ↦ references_told takes e
         | inr e ↦ sets_told boolean set (λ r m is h. truth_at ∙ ap Some (sym (takes b.Set refl).1)) e

@@ -1,15 +1,15 @@
 -- What designators reach is told, and so is what is used of it.
 use Rattle.std.proofs.Common.{◌≡◌, ◌⊎◌, inl, inr, ℕ, ◌+◌, ◌≤◌, Bool, true, false, not, ◌&&◌, List, [], length, slice_get, Option, Some, None, IfSome, if◌then◌else◌, refl, sym, ap, subst, ◌∙◌, arith, true≢false}
-use Rattle.std.specs.Prelude.{max, is_none}
+use Rattle.std.specs.Prelude.{◌-◌, max, is_none}
 use Rattle.lil_base.specs.declared.fault.{Place.Place, FaultKind.{FaultKind, TheVariants.{NotRecord, NotPointer}}}
 use Rattle.lil_text.specs.declared.tree.Ident.{Ident}
-use Rattle.lil_types.specs.Types.{Table, cardinal}
+use Rattle.lil_types.specs.{Types.{Table, cardinal}, declared.fields.FieldAt.FieldAt}
 use Rattle.lil_declared.specs.declared.declared.{Mode.Mode, RVar.RVar}
 use Rattle.lil_declared.specs.declared.declared.Mode.TheVariants as mode
-use Rattle.lil_scope.specs.{Built.built, Names.{member, waits_for, chain}, declared.{env.Env.Env, thing.{Kind.Kind, Thing.Thing, Variable.Variable}}}
+use Rattle.lil_scope.specs.{Built.built, Names.{member, waits_for, level, chain}, declared.{env.Env.Env, thing.{Kind.Kind, Thing.Thing, Variable.Variable}}}
 use Rattle.lil_scope.specs.declared.thing.Kind.TheVariants as k
 use Rattle.lil_scope.specs.declared.thing.Thing.TheVariants as t
-use Rattle.lil_kinds.specs.{Forms.{array_parts, field, is_record, target}, Kinds.{assignable, misses}, declared.{forms.FieldAt.FieldAt, found.{Form.Form, Found.Found, Located.Located, OpenArray.OpenArray, Standing.Standing}}}
+use Rattle.lil_kinds.specs.{Forms.{array_parts, field, is_record, target}, Kinds.{assignable, misses}, declared.found.{Form.Form, Found.Found, Located.Located, OpenArray.OpenArray, Standing.Standing}}
 use Rattle.lil_kinds.specs.declared.forms.ArrayParts as checked
 use Rattle.lil_kinds.specs.declared.found.Form.TheVariants as form
 use Rattle.lil_kinds.specs.declared.found.Standing.TheVariants as standing
@@ -21,12 +21,12 @@ use Rattle.lil_shapes.specs.{Bases.{plain, kind_at, array_at, field_at}, Pointer
 use Rattle.lil_forms.specs.{Parts.{placed_is, further_is}, Places.{at_root, further, located_form, located_in, variable_form, held_at, element_as, element_by, element_along}, Properties.{Property, Reach}, Values.typed, Variables.seen}
 use Rattle.lil_forms.specs.Places as places
 use Rattle.lil_call.specs.declared.call.Argument.TheVariants as argument
-use Rattle.lil_operators.specs.Operations.{raised}
+use Rattle.lil_operators.specs.Operations.{plain_found, raised}
 use Rattle.lil_check_value.specs.{declared.{designators.{Named.Named, Part.Part, Reached.Reached}, names.Looked.{Looked, TheVariants.{Nothing, Field, Thing as Declared}}}, Looks.{look, looked_as, is_hidden_thing}}
-use Rattle.lil_check_value.specs.Designators.{form_named, kind_by, variable_kind, whole_part, thing_reached, held_field, name_node, root_means, is_misplaced, refused_rows, record_kind, field_of, field_found, field_value, part_field, module_block, other_field_by, other_field, field_node, parts_of, with_field, with_index, index_fits, element_found, element_value, index_rows, part_index, other_index, index_node, opaque_kind, target_of, with_follow, target_found, target_value, part_follow, is_waiting, reached_follow, other_follow, follow_node, part_found, no_value, is_procedure, text_form, thing_found, named_value, value_node, variable_node, part_callee, thing_callee, callee_node, type_in, no_type_in, part_typed, typed_node}
+use Rattle.lil_check_value.specs.Designators.{form_named, kind_by, variable_kind, whole_part, thing_reached, held_field, name_node, root_means, is_misplaced, refused_rows, record_kind, field_of, field_found, field_value, part_field, module_block, other_field_by, other_field, field_node, parts_of, with_field, with_index, index_fits, element_found, element_value, index_rows, part_index, other_index, index_node, opaque_kind, target_of, with_follow, target_found, target_value, part_follow, is_waiting, reached_follow, other_follow, follow_node, part_found, no_value, text_form, thing_found, named_value, value_node, variable_node, part_callee, thing_callee, callee_node, type_in, no_type_in, part_typed, typed_node}
 use Rattle.lil_check_value.specs.declared.designators.Reached.TheVariants as reached
 use Rattle.lil_right_call.specs.Told.{ArgumentTold, CalleeTold}
-use Rattle.lil_right_type.specs.{Found.{reach, KindTold, LiesAt, OpensAt, GoesWith, bare, IsPlaced, HasPlace, IsFound, ThingTold, EnvTold}, Homes.{IsPlaceForm, IsOpenForm, IsVariableForm, IsModule, Seen}, Parts.{IsArray, IsPointer, array_is, field_is, target_is, never_opaque}, Right.{Clear, Right, IsThere, IsThereOr, there_or, is_so}, Typed.{Suits, kept_if, assignable_stores, stores_suits}, Types.{IsOrdinal, known_ordinal}}
+use Rattle.lil_right_type.specs.{Found.{reach, KindTold, LiesAt, OpensAt, GoesWith, bare, IsPlaced, HasPlace, IsFound, ThingTold, EnvTold}, Homes.{IsPlaceForm, IsOpenForm, IsVariableForm, IsModule, Seen}, Parts.{IsArray, IsPointer, array_is, field_is, target_is, never_opaque}, Right.{Clear, Right, IsThere, IsThereOr, there_or, is_so}, Typed.{Suits, kept_if, own_yields, assignable_stores, stores_suits}, Types.{IsOrdinal, known_ordinal}}
 use Rattle.lil_right_value.specs.{Names.{SeenTold, LookTold, look_told, looked_told, member_seen}, Operators.{IsRaised, raised_is}}
 
 -- ---- depths of places
@@ -358,20 +358,26 @@ module _ (e : Env) (P : Property e.types (seen e) e.withs (reach e)) (told : Env
   -- ---- uses
   thing_right : (o : Named) → NamedTold o.thing → Right (IsThere (IsFound P)) (named_value e.texts o)
   unfolding named_value
-  thing_right o h clear = by o.thing h clear.0 clear.1.0 clear.1.1.0
+  thing_right o h clear = by o.thing h clear.0 clear.1.0
     where
-      by : (x : Thing) → NamedTold x → is_misplaced x ≡ false → no_value x ≡ false → is_procedure x ≡ false → IsThere (IsFound P) (thing_found e.texts o.first x)
-      by (t.Constant kind) h c d u = record { kind = h.0.0; form = bare P 1 kind _ h.0.1; place = tt; some = omega arith; few = omega arith }
-      by (t.Named n chars) h c d u = record { kind = h.0.0; form = subst (λ o. GoesWith P 1 (k.Chars chars) (text_form o)) (sym h.0.1.1) h.0.1.2; place = tt; some = omega arith; few = omega arith }
-      by t.Nil h c d u = record { kind = tt; form = tt; place = tt; some = omega arith; few = omega arith }
-      by (t.Variable v) h c d u = absurd (true≢false (sym h.2))
-      by (t.Type s) h c d u = absurd (true≢false c)
-      by (t.Procedure x) h c d u = absurd (true≢false u)
-      by (t.Resident x s) h c d u = absurd (true≢false d)
-      by (t.Standard x) h c d u = absurd (true≢false d)
-      by (t.Module n) h c d u = absurd (true≢false c)
-      by t.Hidden h c d u = absurd (true≢false (sym h.2))
-      by t.Broken h c d u = absurd h.0
+      by : (x : Thing) → NamedTold x → is_misplaced x ≡ false → no_value x ≡ false → IsThere (IsFound P) (thing_found e.texts o.first x)
+      by (t.Constant kind) h c d = record { kind = h.0.0; form = bare P 1 kind _ h.0.1; place = tt; some = omega arith; few = omega arith }
+      by (t.Named n chars) h c d = record { kind = h.0.0; form = subst (λ o. GoesWith P 1 (k.Chars chars) (text_form o)) (sym h.0.1.1) h.0.1.2; place = tt; some = omega arith; few = omega arith }
+      by t.Nil h c d = record { kind = tt; form = tt; place = tt; some = omega arith; few = omega arith }
+      by (t.Variable v) h c d = absurd (true≢false (sym h.2))
+      by (t.Type s) h c d = absurd (true≢false c)
+      by (t.Procedure x) h c d = subst (λ (nested : Bool). IsThere (IsFound P) (if nested then None else Some (plain_found o.first (form.Routine x.number) (k.Routine x.sort)))) (sym d) (record {
+        kind = tt;
+        form = record { reached = subst (λ n. reach e x.sort x.number n) (ap (λ (nested : Bool). if nested then level e + 1 - x.level else 0) d) h.3; low = omega (arith, h.3.low) };
+        place = tt;
+        some = omega arith;
+        few = omega arith;
+      })
+      by (t.Resident x s) h c d = absurd (true≢false d)
+      by (t.Standard x) h c d = absurd (true≢false d)
+      by (t.Module n) h c d = absurd (true≢false c)
+      by t.Hidden h c d = absurd (true≢false (sym h.2))
+      by t.Broken h c d = absurd h.0
 
   pub value_right : (o : Option Reached) → IsThere ReachedTold o → Right (IsThere (IsFound P)) (value_node e.texts o)
   value_right None h clear = h
@@ -383,7 +389,7 @@ module _ (e : Env) (P : Property e.types (seen e) e.withs (reach e)) (told : Env
   variable_right (Some (reached.Part a)) h clear = part_told P a h
   variable_right (Some (reached.Other o)) h clear = absurd (true≢false clear.0)
 
-  callee_told : (x : Thing) → NamedTold x → is_misplaced x ≡ false → IsThere (CalleeTold e.types (reach e)) (thing_callee e x)
+  callee_told : (x : Thing) → NamedTold x → is_misplaced x ≡ false → IsThere (CalleeTold P) (thing_callee e x)
   callee_told (t.Constant kind) h c = tt
   callee_told (t.Named n chars) h c = tt
   callee_told t.Nil h c = tt
@@ -396,11 +402,11 @@ module _ (e : Env) (P : Property e.types (seen e) e.withs (reach e)) (told : Env
   callee_told t.Hidden h c = absurd (true≢false (sym h.2))
   callee_told t.Broken h c = absurd h.0
 
-  pub called_right : (o : Option Reached) → IsThere ReachedTold o → Right (IsThere (CalleeTold e.types (reach e))) (callee_node e o)
+  pub called_right : (o : Option Reached) → IsThere ReachedTold o → Right (IsThere (CalleeTold P)) (callee_node e o)
   called_right None h clear = h
   called_right (Some (reached.Part a)) h clear = elim (which P a h) [
-    | inl place ↦ subst (λ kind. CalleeTold e.types (reach e) (part_callee kind a)) (sym place.is) place.lies
-    | inr opened ↦ subst (λ kind. CalleeTold e.types (reach e) (part_callee kind a)) (sym opened.is) tt
+    | inl place ↦ subst (λ kind. CalleeTold P (part_callee e.types kind a)) (sym place.is) (h.few, λ g is. own_yields P told.types place.sort g a.depth a.form is (subst (λ kind. GoesWith P a.depth kind a.form) place.is h.form))
+    | inr opened ↦ subst (λ kind. CalleeTold P (part_callee e.types kind a)) (sym opened.is) tt
   ]
   called_right (Some (reached.Other o)) h clear = callee_told o.thing h clear.0
 

@@ -9,7 +9,7 @@ use Rattle.lil_types.specs.Types.{char}
 use Rattle.lil_report.specs.{Least.now_of, Told.{Row, has_no_fault}}
 use Rattle.lil_resolved.specs.{Kinds.Scope, Sound.{is_character, is_text}}
 use Rattle.lil_resolved.specs.declared.resolved.RBase.TheVariants as b
-use Rattle.lil_scope.specs.{Names.{is_wait_for, waits_for, chain}, declared.env.{Env.Env, Wait.Wait}}
+use Rattle.lil_scope.specs.{Names.{is_wait_for, waits_for}, declared.env.{Env.Env, Wait.Wait}}
 use Rattle.lil_kinds.specs.declared.found.Found.{Found}
 use Rattle.lil_shapes.specs.{Bases.base_at, ListLaws.AllFine}
 use Rattle.lil_forms.specs.{Properties.Property, Scopes.{Fits, both_left}, Soundness.soundness, StatementSound.StatementSound, Variables.seen}
@@ -54,7 +54,7 @@ module _ (e : Env) (P : Property e.types (seen e) e.withs (reach e)) (told : Env
   ChainedOr = IsThereOr W (ChainTold P told.types)
 
   abbrev CalleeOr : Option Callee → Type 0
-  CalleeOr = IsThereOr W (CalleeTold e.types (reach e))
+  CalleeOr = IsThereOr W (CalleeTold P)
 
   abbrev ElementsOr : Option ℕ → Option Elements → Type 0
   ElementsOr s = IsThereOr W (λ es. AreElements P s (Some es))
@@ -105,7 +105,7 @@ module _ (e : Env) (P : Property e.types (seen e) e.withs (reach e)) (told : Env
   call_or p (Some c) xs h all clear = by (arguments_or P W xs all)
     where
       by : AllFine (ArgumentTold P) xs ⊎ (W × (all_have_values xs ≡ false)) → FoundOr (call_node e.types p (Some c) xs).0
-      by (inl fine) = there_or W (IsFound P) (call_node e.types p (Some c) xs).0 (call_node_right P told.types p (Some c) xs h fine clear)
+      by (inl fine) = there_or W (IsFound P) (call_node e.types p (Some c) xs).0 (call_node_right P told.types told.words p (Some c) xs h fine clear)
       by (inr none) = subst (λ all. FoundOr (if all then value_of e.types p c xs else (None, [])).0) (sym none.1) none.0
 
   begun_at_right : (p : Place) (a : Option Found) → FoundOr a → FoundOr (begun_at p a)
@@ -134,7 +134,7 @@ module _ (e : Env) (P : Property e.types (seen e) e.withs (reach e)) (told : Env
     used = node_or W (ReachedTold e P told) (IsFound P) (value_node e.texts) refl (value_right e P told);
     typed = typed_or;
     given = given_or_not;
-    called = node_or W (ReachedTold e P told) (CalleeTold e.types (reach e)) (callee_node e) refl (called_right e P told);
+    called = node_or W (ReachedTold e P told) (CalleeTold P) (callee_node e) refl (called_right e P told);
     call = call_or;
     begun_at = begun_at_right;
   }
@@ -166,4 +166,4 @@ module _ (e : Env) (P : Property e.types (seen e) e.withs (reach e)) (told : Env
 
 pub call_means_right : (e : Env) {ts : Scope} (fits : Fits e.types (seen e) e.withs (reach e) ts) → EnvTold e → e.waits ≡ [] → (looping : Bool) (d : Designator) (xs : List Expr) → Right (IsThere (StatementSound ts looping)) (call_means e d xs)
 call_means_right e {ts} fits told settled looping =
-    call_true Clearly lifts e (truths e (soundness fits) told ⊥ (none_waits e.waits settled)) (nodes e (soundness fits) told ⊥ (none_waits e.waits settled)) (IsThere (StatementSound ts looping)) (statement_node_right fits told.types looping)
+    call_true Clearly lifts e (truths e (soundness fits) told ⊥ (none_waits e.waits settled)) (nodes e (soundness fits) told ⊥ (none_waits e.waits settled)) (IsThere (StatementSound ts looping)) (statement_node_right fits told.types told.words looping)

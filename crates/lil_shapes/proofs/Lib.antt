@@ -1,3 +1,4 @@
 pub mod LayLaws
 pub mod ShapeLaws
+pub mod SignatureLaws
 pub mod TargetLaws

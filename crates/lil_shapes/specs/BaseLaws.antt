@@ -3,9 +3,9 @@ use Rattle.std.proofs.Common.{◌≡◌, ℕ, ℤ, pos, negsuc, zero, suc, Bool,
 use Rattle.std.specs.Prelude.{◌==◌, ◌≤ℤ◌, nat_le}
 use Rattle.std.proofs.lemmas.{Int.ints, Option.none-some, Bool.Decides.nat_tests}
 use Rattle.lil_base.specs.Laws.{bounds}
-use Rattle.lil_types.specs.{Types.{Table, integer, cardinal, boolean, char, bit_set, address, entry}, declared.table.{TypeForm.{TypeForm, TheVariants.{Enumeration, Subrange, Array, Record, SetOf, Pointer, Procedure, Opaque}}, TypeEntry.TypeEntry}}
+use Rattle.lil_types.specs.{Types.{Table, integer, cardinal, boolean, char, bit_set, proc, address, entry}, declared.table.{TypeForm.{TypeForm, TheVariants.{Enumeration, Subrange, Array, Record, SetOf, Pointer, Procedure, Opaque}}, TypeEntry.TypeEntry}}
 use Rattle.lil_types.specs.Types as types
-use Rattle.lil_resolved.specs.{declared.resolved.{RBase.RBase, RKind.RKind}, Kinds.{Pointee, Objects, Workspaces, Kind, OfTruth, OfCharacter, OfSet, OfPointer, is_base, within, is_reference, is_literal, scalar_of, ordinal_of}, MemberLaws.word_of_set, Views.base_view}
+use Rattle.lil_resolved.specs.{declared.resolved.{RBase.RBase, RKind.RKind}, Kinds.{Pointee, Objects, Workspaces, Kind, OfTruth, OfCharacter, OfSet, OfPointer, OfProcedure, is_base, within, is_reference, is_literal, scalar_of, ordinal_of}, MemberLaws.word_of_set, Views.base_view}
 use Rattle.lil_resolved.specs.declared.resolved.RBase.TheVariants as b
 use Rattle.lil_shapes.specs.{Bases.{standard, base_form, base_by, base_at, kind_form, kind_by, kind_over, kind_at}, Operators.has_number}
 
@@ -36,7 +36,8 @@ standard_words s =
     or_else HasWords (s == integer) b.Integer _ refl
     (or_else HasWords (s == cardinal) b.Cardinal _ refl
     (or_else HasWords (s == boolean) b.Truth _ refl
-    (or_else HasWords (s == char) b.Character _ refl (or_else HasWords (s == bit_set) b.Set _ refl (or_else HasWords (s == address) b.Address None refl tt)))))
+    (or_else HasWords (s == char) b.Character _ refl
+    (or_else HasWords (s == bit_set) b.Set _ refl (or_else HasWords (s == address) b.Address _ refl (or_else HasWords (s == proc) (b.Procedure s) None refl tt))))))
 
 form_words : (s : ℕ) (f : TypeForm) → IfSome (base_form s f) HasWords
 form_words s (Enumeration xs) = if_true HasWords (nat_le (length xs) 65535) (b.Enumeration (length xs)) (λ h. h)
@@ -45,7 +46,7 @@ form_words s (Array i e) = tt
 form_words s (Record xs) = tt
 form_words s (SetOf n) = refl
 form_words s (Pointer n) = refl
-form_words s (Procedure ps r) = tt
+form_words s (Procedure ps r) = refl
 form_words s (Opaque o) = tt
 
 entry_words : (s : ℕ) (e : Option TypeEntry) → IfSome (base_by s e) HasWords
@@ -63,7 +64,7 @@ form_base k (Array i e) = tt
 form_base k (Record xs) = tt
 form_base k (SetOf n) = refl
 form_base k (Pointer n) = refl
-form_base k (Procedure ps r) = tt
+form_base k (Procedure ps r) = refl
 form_base k (Opaque o) = tt
 
 entry_base : (k : RBase) (e : Option TypeEntry) → IfSome (kind_by k e) (λ j. k ≡ j.base)
@@ -105,6 +106,11 @@ nil_number to (pos zero) h j = (refl, refl)
 nil_number to (pos (suc i)) h j = absurd (omega (arith, ints))
 nil_number to (negsuc i) h j = absurd (omega (arith, ints))
 
+none_number : (n : ℕ) (z : ℤ) → pos 0 ≤ℤ z → z ≤ℤ pos 0 → IsNumber (OfProcedure n) z
+none_number n (pos zero) h j = (refl, refl)
+none_number n (pos (suc i)) h j = absurd (omega (arith, ints))
+none_number n (negsuc i) h j = absurd (omega (arith, ints))
+
 -- the numbers of a base are those of its values
 pub number_sound : (k : RBase) (z : ℤ) → has_number k z ≡ true → IsNumber (base_view k) z
 number_sound b.Cardinal z h = (h, refl)
@@ -115,6 +121,7 @@ number_sound (b.Enumeration n) z h = (h, refl)
 number_sound b.Set z h = let e = bounds (pos 0) z (pos 65535) h in set_number z e.0 e.1
 number_sound (b.Pointer n) z h = let e = bounds (pos 0) z (pos 0) h in nil_number (Objects n) z e.0 e.1
 number_sound b.Address z h = let e = bounds (pos 0) z (pos 0) h in nil_number Workspaces z e.0 e.1
+number_sound (b.Procedure n) z h = let e = bounds (pos 0) z (pos 0) h in none_number n z e.0 e.1
 
 no_reference : (k : RBase) (z : ℤ) → is_reference (scalar_of (base_view k) z) ≡ false
 no_reference b.Cardinal z = refl
@@ -125,6 +132,7 @@ no_reference (b.Enumeration n) z = refl
 no_reference b.Set z = refl
 no_reference (b.Pointer n) z = refl
 no_reference b.Address z = refl
+no_reference (b.Procedure n) z = refl
 
 -- and those that a text can name
 pub literal_sound : (k : RBase) (z : ℤ) → has_number k z ≡ true → is_literal (base_view k) (scalar_of (base_view k) z) ≡ true

@@ -1,7 +1,7 @@
 -- The kinds of the types of a module, what may be in sets, and the parts of types.
 use Rattle.std.specs.Prelude.{ℕ, Bool, true, false, slice_get, Option, Some, None, ◌==◌, pos, if◌then◌else◌, nat_le, length}
 use Rattle.std.specs.Option.{option_map}
-use Rattle.lil_types.specs.{Types.{Table, entry, cardinal, bit_set, base, char, integer, boolean, address}, declared.table.{Field.Field, TypeForm.{TypeForm, TheVariants.{Array, Record, SetOf, Enumeration, Subrange, Pointer}}, TypeEntry.TypeEntry, Span.Span}}
+use Rattle.lil_types.specs.{Types.{Table, entry, cardinal, bit_set, base, char, integer, boolean, proc, address}, declared.table.{Field.Field, TypeForm.{TypeForm, TheVariants.{Array, Record, SetOf, Enumeration, Subrange, Pointer, Procedure}}, TypeEntry.TypeEntry, Span.Span}}
 use Rattle.lil_shapes.specs.declared.{composites.ArrayParts.ArrayParts, members.Members.Members}
 use Rattle.lil_resolved.specs.declared.resolved.RBase.TheVariants as b
 use Rattle.lil_resolved.specs.{declared.resolved.{RKind.RKind, RBase.RBase, RRange.RRange}, Kinds.numbers, Views.kind_view}
@@ -59,7 +59,8 @@ standard s =
     else (if s == boolean then Some b.Truth
     else (if s == char then Some b.Character
     else (if s == bit_set then Some b.Set
-    else (if s == address then Some b.Address else None)))))
+    else (if s == address then Some b.Address
+    else (if s == proc then Some (b.Procedure s) else None))))))
 
 -- constants whose numbers are words
 abbrev pub enumerated : ℕ → Option RBase
@@ -69,13 +70,14 @@ abbrev pub base_form : ℕ → TypeForm → Option RBase
 base_form s (Enumeration xs) = enumerated (length xs)
 base_form s (SetOf n) = Some b.Set
 base_form s (Pointer n) = Some (b.Pointer s)
+base_form s (Procedure ps r) = Some (b.Procedure s)
 base_form s _ = None
 
 abbrev pub base_by : ℕ → Option TypeEntry → Option RBase
 base_by s None = standard s
 base_by s (Some e) = base_form s e.form
 
--- what the values of a base type are: INTEGER, CARDINAL, BOOLEAN, CHAR, an enumeration, sets, pointers, or addresses
+-- what the values of a base type are: INTEGER, CARDINAL, BOOLEAN, CHAR, an enumeration, sets, pointers, addresses, or procedures
 abbrev pub base_at : Table → ℕ → Option RBase
 base_at t s = base_by s (entry t s)
 
@@ -90,6 +92,7 @@ abbrev pub kind_form : RBase → TypeForm → Option RKind
 kind_form k (Enumeration xs) = Some (plain k)
 kind_form k (SetOf n) = Some (plain k)
 kind_form k (Pointer n) = Some (plain k)
+kind_form k (Procedure ps r) = Some (plain k)
 kind_form k (Subrange n s) = Some (record { base = k; range = Some (range_of s) })
 kind_form k _ = None
 

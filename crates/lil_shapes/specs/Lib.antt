@@ -6,4 +6,6 @@ pub mod Operators
 pub mod Pointers
 pub mod ShapeSound
 pub mod Shaping
+pub mod SignatureSound
+pub mod Signatures
 pub mod TargetSound

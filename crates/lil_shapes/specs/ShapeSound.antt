@@ -1,10 +1,10 @@
 -- What lies at the parts of a type, by the shapes of all types.
-use Rattle.std.proofs.Common.{◌≡◌, ℕ, zero, suc, ◌+◌, ◌*◌, nat_le, List, [], ◌∷◌, ◌++◌, length, map, slice_get, true, Option, None, Some, ◌⊎◌, inl, inr, refl, sym, ap, subst, ◌∙◌, add-one, true≢false}
+use Rattle.std.proofs.Common.{◌≡◌, ℕ, zero, suc, ◌+◌, ◌*◌, ◌<◌, nat_le, List, [], ◌∷◌, ◌++◌, length, map, slice_get, true, Option, None, Some, ◌⊎◌, inl, inr, refl, sym, ap, subst, ◌∙◌, add-one, arith, true≢false}
 use Rattle.std.specs.Option.{option_map}
-use Rattle.std.proofs.lemmas.{List.length_push, Option.{none-some, same_Some, cond_some}}
+use Rattle.std.proofs.lemmas.{Bool.cases_lt, List.length_push, Option.{none-some, same_Some, cond_some}}
 use Rattle.lil_types.specs.{Types.{Table, entry, base}, declared.table.{Field.Field, TypeForm.{TypeForm, TheVariants.{Array, Record}}, TypeEntry.TypeEntry}}
 use Rattle.lil_resolved.specs.{Kinds.{numbers, Shape, Word, Row, words, is_there, all_words, part_at, fields_of, element_of, count_of}, Views.kind_view, declared.resolved.{RBase.RBase, RKind.RKind}}
-use Rattle.lil_shapes.specs.{declared.composites.ArrayParts.ArrayParts, Bases.{base_at, kind_form, kind_over, kind_at, field_sort, field_in, field_by, field_at, array_in, array_by, array_at, is_composite, composite_by, composite_at}, Shaping.{all_some, within, row, field_shape, shape_in, shape_by, shape, with_next, shapes_below}, ListLaws.some_at}
+use Rattle.lil_shapes.specs.{declared.composites.ArrayParts.ArrayParts, Bases.{base_at, kind_form, kind_over, kind_at, field_sort, field_in, field_by, field_at, array_in, array_by, array_at, is_composite, composite_by, composite_at}, Shaping.{all_some, within, there, row, field_shape, shape_in, shape_by, shape, with_next, shapes_below}, ListLaws.some_at}
 
 -- ---- lists
 pub at_end : {A : Type 0} (xs : List A) (y x : A) (i : ℕ) → slice_get (xs ++ y ∷ []) i ≡ Some x → (slice_get xs i ≡ Some x) ⊎ ((i ≡ length xs) × (y ≡ x))
@@ -24,6 +24,37 @@ earlier (z ∷ xs) ys (suc i) x h = earlier xs ys i x h
 pub mapped : {A B : Type 0} (f : A → B) (o : Option A) (y : B) → option_map f o ≡ Some y → (x : A) × (o ≡ Some x) × (f x ≡ y)
 mapped f None y h = absurd (none-some y h)
 mapped f (Some x) y h = (x, refl, same_Some (f x) y h)
+
+-- values that are all there have a first one
+pub record HasFirst {A : Type 0} (o : Option A) (os : List (Option A)) (xs : List A) : Type 0 where
+  pub value : A
+  pub rest : List A
+  pub is : o ≡ Some value
+  pub others : all_some os ≡ Some rest
+  pub all : xs ≡ value ∷ rest
+
+pub first_some : {A : Type 0} (o : Option A) (os : List (Option A)) (xs : List A) → all_some (o ∷ os) ≡ Some xs → HasFirst o os xs
+first_some None os xs h = absurd (none-some xs h)
+first_some (Some a) os xs h = let rest = mapped (λ rest. a ∷ rest) (all_some os) xs h in record { value = a; rest = rest.0; is = refl; others = rest.1; all = sym rest.2 }
+
+last_at : {A : Type 0} (xs : List A) (y : A) → slice_get (xs ++ y ∷ []) (length xs) ≡ Some y
+last_at [] y = refl
+last_at (x ∷ xs) y = last_at xs y
+
+-- lists of one more value each, by numbers
+module _ {A : Type 0} (f : ℕ → A) (below : ℕ → List A) (none : below zero ≡ []) (more : (k : ℕ) → below (suc k) ≡ below k ++ f k ∷ []) where
+  below_length : (k : ℕ) → length (below k) ≡ k
+  below_length zero = ap length none
+  below_length (suc k) = ap length (more k) ∙ length_push (below k) (f k) ∙ ap (λ n. n + 1) (below_length k) ∙ add-one k
+
+  pub at_below : (k n : ℕ) → n < k → slice_get (below k) n ≡ Some (f n)
+  at_below zero n h = absurd (omega arith)
+  at_below (suc k) n h = elim (cases_lt n k) [
+    | inl e ↦ ap (λ xs. slice_get xs n) (more k) ∙ earlier (below k) (f k ∷ []) n (f n) (at_below k n e)
+    | inr e ↦
+        let is : n ≡ k = omega arith in
+        ap (λ xs. slice_get xs n) (more k) ∙ ap (slice_get (below k ++ f k ∷ [])) (is ∙ sym (below_length k)) ∙ last_at (below k) (f k) ∙ ap (λ i. Some (f i)) (sym is)
+  ]
 
 -- ---- the types before a type
 -- a type has a shape by those before it, which are among these
@@ -58,6 +89,10 @@ all_shaped t (suc k) ts h = by (shapes_below t k) refl h (all_shaped t k)
     by (Some before) there h others = with_one before (shape t before k) refl h (others before there)
 
 -- ---- the parts of a shape
+pub there_is : (o : Option Shape) (s : Shape) → there o ≡ Some s → (o ≡ Some s) × (is_there s ≡ true)
+there_is None s h = absurd (none-some s h)
+there_is (Some x) s h = let c = cond_some (is_there x) x s h in (ap Some c.1, ap is_there (sym c.1) ∙ c.0)
+
 pub within_is : (o : Option (List Shape)) (ts : List Shape) → within o ≡ Some ts → o ≡ Some ts
 within_is None ts h = absurd (none-some ts h)
 within_is (Some ys) ts h = ap Some (cond_some (nat_le (all_words ys) 32000) ys ts h).1

@@ -1,16 +1,16 @@
 -- What pointers point to lies there, by the shapes of all types.
-use Rattle.std.proofs.Common.{◌≡◌, ℕ, zero, suc, ◌+◌, ◌<◌, ◌≤◌, Bool, true, false, List, [], ◌∷◌, ◌++◌, length, get_or, slice_get, Option, None, Some, IfSome, if◌then◌else◌, inl, inr, refl, sym, ap, ◌∙◌, add-one, arith, true≢false}
+use Rattle.std.proofs.Common.{◌≡◌, ℕ, ◌+◌, ◌<◌, ◌≤◌, Bool, true, false, List, length, get_or, slice_get, Option, None, Some, IfSome, if◌then◌else◌, inl, inr, refl, sym, ap, ◌∙◌, arith, true≢false}
 use Rattle.std.specs.Prelude.{◌-◌, ◌||◌, nat_lt, is_some}
 use Rattle.std.specs.Option.{option_map}
-use Rattle.std.proofs.lemmas.{Bool.{cases_lt, Decides.nat_tests}, List.length_push, Option.{none-some, slice_get_within, slice_get-get_or, slice_get-map}}
+use Rattle.std.proofs.lemmas.{Bool.{cases_lt, Decides.nat_tests}, Option.{none-some, slice_get_within, slice_get-get_or, slice_get-map}}
 use Rattle.lil_types.specs.{Types.{Table, entry, meant_by, facts_in, known}, declared.table.TypeEntry.TypeEntry}
 use Rattle.lil_types.specs.Types as types
 use Rattle.lil_resolved.specs.{Kinds.{Objects, Kind, OfPointer, Shape, Absent, Word, is_there, shape_by, shape_at}, Views.kind_view, declared.resolved.RKind.RKind}
 use Rattle.lil_shapes.specs.{declared.pointers.Target.Target, Bases.{standard, base_by, base_at, kind_over, kind_at, composite_by, composite_at}, BaseLaws.if_true, Pointers.{pointed_by, pointed, number_or, targets_below, targets, lies_at, target_with, target_of, target_by, target_at}, Shaping.shapes}
-use Rattle.lil_shapes.specs.ShapeSound.{HasShape, AllShaped, earlier, all_shaped, composite_shaped, word_shaped}
+use Rattle.lil_shapes.specs.ShapeSound.{HasShape, AllShaped, at_below, all_shaped, composite_shaped, word_shaped}
 
 -- ---- numbers of a table
-entered : (t : Table) (n : ℕ) (e : TypeEntry) → entry t n ≡ Some e → n < 16 + length t
+pub entered : (t : Table) (n : ℕ) (e : TypeEntry) → entry t n ≡ Some e → n < 16 + length t
 entered t n e h = by (nat_lt n 16) refl h
   where
     by : (low : Bool) → nat_lt n 16 ≡ low → (if low then None else slice_get t (n - 16)) ≡ Some e → n < 16 + length t
@@ -52,24 +52,9 @@ pointed_within t n m h = by (entry t n) refl h
     by (Some e) is h = entered t n e is
 
 -- ---- the list of all
-targets_length : (t : Table) (k : ℕ) → length (targets_below t k) ≡ k
-unfolding targets_below
-targets_length t zero = refl
-targets_length t (suc k) = length_push (targets_below t k) (number_or k (pointed t k)) ∙ ap (λ n. n + 1) (targets_length t k) ∙ add-one k
-
-last_at : {A : Type 0} (xs : List A) (y : A) → slice_get (xs ++ y ∷ []) (length xs) ≡ Some y
-last_at [] y = refl
-last_at (x ∷ xs) y = last_at xs y
-
 target_below : (t : Table) (k n : ℕ) → n < k → slice_get (targets_below t k) n ≡ Some (number_or n (pointed t n))
 unfolding targets_below
-target_below t zero n h = absurd (omega arith)
-target_below t (suc k) n h = elim (cases_lt n k) [
-  | inl e ↦ earlier (targets_below t k) (number_or k (pointed t k) ∷ []) n (number_or n (pointed t n)) (target_below t k n e)
-  | inr e ↦
-      let is : n ≡ k = omega arith in
-      ap (slice_get (targets_below t (suc k))) (is ∙ sym (targets_length t k)) ∙ last_at (targets_below t k) (number_or k (pointed t k)) ∙ ap (λ i. Some (number_or i (pointed t i))) (sym is)
-]
+target_below t k n h = at_below (λ i. number_or i (pointed t i)) (targets_below t) refl (λ i. refl) k n h
 
 -- ---- shapes
 pub all_known : (t : Table) (ts : List Shape) → shapes t ≡ Some ts → AllShaped t (16 + length t) ts
@@ -89,6 +74,12 @@ module _ (t : Table) (ts : List Shape) (all : AllShaped t (16 + length t) ts) wh
       by None is e = composite_shaped t ts n s h e
       by (Some k) is e = ap is_there (word_shaped t ts n s h k is)
 
+  -- where something lies in a variable of a type, the type has a shape for it
+  pub lies_shaped : (n : ℕ) → lies_at t n ≡ true → (x : Shape) × (slice_get ts n ≡ Some x) × (is_there x ≡ true)
+  lies_shaped n lies =
+      let known : slice_get ts n ≡ Some (get_or ts n Absent) = slice_get-get_or ts n Absent (omega (arith, all.0, lies_within t n lies)) in
+      (get_or ts n Absent, known, lies_there n (get_or ts n Absent) (all.1 n (get_or ts n Absent) known) lies)
+
   target_is : (n m : ℕ) → pointed t n ≡ Some m → shape_at (targets t ts) n ≡ shape_at ts m
   target_is n m is =
       ap shape_by
@@ -98,13 +89,9 @@ module _ (t : Table) (ts : List Shape) (all : AllShaped t (16 + length t) ts) wh
 
   points_to : (n m : ℕ) (s : Shape) → pointed t n ≡ Some m → s ≡ Word (OfPointer (Objects n)) → lies_at t m ≡ true → PointsTo t ts s (record { pointer = n; sort = m })
   points_to n m s is word lies =
-      let known : slice_get ts m ≡ Some (get_or ts m Absent) = slice_get-get_or ts m Absent (omega (arith, all.0, lies_within t m lies)) in
-      let same : shape_at (targets t ts) n ≡ get_or ts m Absent = target_is n m is ∙ ap shape_by known in
-      record {
-        word = word;
-        sort = known ∙ ap Some (sym same);
-        there = ap is_there same ∙ lies_there m (get_or ts m Absent) (all.1 m (get_or ts m Absent) known) lies;
-      }
+      let x = lies_shaped m lies in
+      let same : shape_at (targets t ts) n ≡ x.0 = target_is n m is ∙ ap shape_by x.1 in
+      record { word = word; sort = x.1 ∙ ap Some (sym same); there = ap is_there same ∙ x.2 }
 
   pub target_known : (k : Kind) (s : Shape) → s ≡ Word k → IfSome (target_of t k) (PointsTo t ts s)
   target_known (OfPointer (Objects n)) s word = by (pointed t n) refl

@@ -4,7 +4,8 @@ ghost use Rattle.lil_shapes.specs.Bases as spec;
 
 use lil_resolved::{RBase, RKind, RRange};
 use lil_types::{
-    ADDRESS, BITSET, BOOLEAN, CARDINAL, CHAR, INTEGER, TypeForm, TypeId, TypeTable, base, entry,
+    ADDRESS, BITSET, BOOLEAN, CARDINAL, CHAR, INTEGER, PROC, TypeForm, TypeId, TypeTable, base,
+    entry,
 };
 
 /// The base of a standard type's values.
@@ -23,6 +24,8 @@ fn standard(sort: TypeId) -> Option<RBase>
         Some(RBase::Set)
     } else if sort == ADDRESS {
         Some(RBase::Address)
+    } else if sort == PROC {
+        Some(RBase::Procedure(sort as usize))
     } else {
         None
     }
@@ -45,6 +48,7 @@ fn base_form(sort: TypeId, form: &TypeForm) -> Option<RBase>
         TypeForm::Enumeration(constants) => enumerated(constants.len()),
         TypeForm::SetOf(_) => Some(RBase::Set),
         TypeForm::Pointer(_) => Some(RBase::Pointer(sort as usize)),
+        TypeForm::Procedure(_, _) => Some(RBase::Procedure(sort as usize)),
         _ => None,
     }
 }
@@ -72,6 +76,7 @@ fn kind_form(base: RBase, form: &TypeForm) -> Option<RKind>
         TypeForm::Enumeration(_) => Some(plain(base)),
         TypeForm::SetOf(_) => Some(plain(base)),
         TypeForm::Pointer(_) => Some(plain(base)),
+        TypeForm::Procedure(_, _) => Some(plain(base)),
         TypeForm::Subrange(_, span) => Some(RKind {
             base,
             range: Some(RRange {
@@ -93,7 +98,7 @@ fn kind_over(t: &TypeTable, base: RBase, sort: TypeId) -> Option<RKind>
     }
 }
 
-/// The kind of a type's variables, None where it is neither an ordinal type nor a set or a pointer type.
+/// The kind of a type's variables, None where it is neither an ordinal type nor a set, a pointer or a procedure type.
 pub fn kind_at(t: &TypeTable, sort: TypeId) -> Option<RKind>
     ensures { result ≡ spec.kind_at t.now sort }
 {

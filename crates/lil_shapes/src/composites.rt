@@ -15,7 +15,7 @@ fn field_in(form: &TypeForm, number: usize) -> Option<TypeId>
     ensures { result ≡ spec.field_in number form.now }
 {
     match form {
-        TypeForm::Record(fields) => match fields.get(number) {
+        TypeForm::Record(fields) => match fields.as_slice().get(number) {
             None => None,
             Some(field) => Some(field.sort),
         },

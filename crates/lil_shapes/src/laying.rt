@@ -16,7 +16,7 @@ pub struct Laid {
 }
 
 /// How a variable holds what it means.
-fn passing_of(mode: Mode) -> RPassing
+pub(crate) fn passing_of(mode: Mode) -> RPassing
     ensures { result ≡ spec.passing_of mode }
 {
     match mode {

@@ -9,6 +9,7 @@ mod members;
 mod operators;
 mod pointers;
 mod shapes;
+mod signatures;
 
 pub use bases::{base_at, kind_at};
 pub use composites::{ArrayParts, array_at, composite_at, element_sort, field_at};
@@ -18,3 +19,4 @@ pub use members::{Members, members_at};
 pub use operators::{counted, counted_base};
 pub use pointers::{Target, all_targets, target_at, target_of, target_sort};
 pub use shapes::{Shaped, all_shapes};
+pub use signatures::all_signatures;

@@ -49,6 +49,6 @@ pub(crate) fn greatest(base: RBase) -> i32
         RBase::Character => 255,
         RBase::Enumeration(count) => i32::from(count.saturating_sub(1)),
         RBase::Set => 65535,
-        RBase::Pointer(_) | RBase::Address => 0,
+        RBase::Pointer(_) | RBase::Address | RBase::Procedure(_) => 0,
     }
 }

@@ -1,13 +1,13 @@
 -- The code of values with their tests, of requests and of calls.
-use Rattle.std.proofs.Common.{◌≡◌, ℕ, ◌+◌, ◌≤◌, Bool, ◌||◌, List, [], ◌∷◌, length, Option, None, refl, ap, ◌∙◌, subst, arith, append-nil}
+use Rattle.std.proofs.Common.{◌≡◌, ℕ, ◌+◌, ◌≤◌, Bool, ◌||◌, List, [], ◌∷◌, ◌++◌, length, Option, None, refl, ap, ◌∙◌, subst, arith, append-nil}
 use Rattle.std.specs.List.{flat_map}
-use Rattle.lil_resolved.specs.{declared.resolved.{RArgument.RArgument}, Kinds.{Kind, same_pointer, all_words, Scope}, Resolved.{Expression, ByValue, OfPlace, OfAll, OfArray, OfText, OfOpened, Arguments, NoMore, Also, Request, Answer, Call, kind_of}, Views.{argument_of, arguments_of}, Sound.{IsSoundWhole, IsSoundValue, IsSoundStored, AreSoundArguments, AreServed, parameters_given, request_parameters}, Sizes.{argument_words, arguments_strings}}
+use Rattle.lil_resolved.specs.{declared.resolved.{RArgument.RArgument}, Kinds.{Kind, same_pointer, same_procedures, all_words, Scope}, Resolved.{Expression, ByValue, OfPlace, OfAll, OfArray, OfText, OfOpened, Spelled, Arguments, NoMore, Also, Request, Answer, Call, CallValue, kind_of}, Views.{argument_of, arguments_of}, Sound.{IsSoundWhole, IsSoundValue, IsSoundStored, AreSoundArguments, AreServed, parameters_given, request_parameters}, Sizes.{argument_words, arguments_strings}}
 use Rattle.lil_base.specs.Requests.{request_number}
 use Rattle.lil_base.specs.declared.request.Request as request
 use Rattle.lil_asm.specs.{declared.instr.Instr.TheVariants.{Svc, Rtn}, Requests.request_words}
 use Rattle.lil_table.specs.Rows.{WholeRow, ArgumentsAt, arguments_words}
 use Rattle.lil_labels.specs.{Drafts.{Draft, Final, Adds, Emits, Doing, Each}, Emitting.{emits_then, emits_as, adds_as}}
-use Rattle.lil_expr.specs.{Strings.emits_end, Generating.{Value, Stored, argument_part}, Calling.{Called}}
+use Rattle.lil_expr.specs.{Strings.emits_end, Generating.{Value, Stored, argument_part}, Calling.{Called, ValueCalled}, Callees.valued_emitted}
 use Rattle.lil_stmt.specs.Generating.{Stated, ArgumentPart}
 use Rattle.lil_stmt.proofs.Strings.{arguments_parts}
 
@@ -17,7 +17,8 @@ whole x n e k p q low sound t = record { typed = sound.kind; shallow = omega (ar
 
 -- a value of a kind may be stored at a place of it
 pub stored : (ts : Scope) (e : Expression) (k : Kind) → IsSoundValue ts e k → IsSoundStored ts e k
-stored ts e k sound = record { stores = ap (λ (b : Bool). b || same_pointer k (kind_of e)) sound.takes; whole = sound.whole }
+stored ts e k sound =
+    record { stores = ap (λ (b : Bool). b || (same_pointer k (kind_of e) || same_procedures k (kind_of e))) sound.takes; whole = sound.whole }
 
 pub answer_emitted : {us : List ℕ} (k : Kind) (e : Expression) (n : ℕ) (exit : Option ℕ) (a b c : Draft) → Adds us a b (Stored e k) → Emits b c (Doing (λ w. Rtn)) → Adds us a c (Stated n exit (Answer k e))
 answer_emitted k e n exit a b c value leave =
@@ -40,6 +41,7 @@ parameters_long ts (Also (OfAll d) given) h = absurd h.0
 parameters_long ts (Also (OfArray copied d high) given) h = omega (arith, parameters_long ts given h.1)
 parameters_long ts (Also (OfText cs) given) h = omega (arith, parameters_long ts given h.1)
 parameters_long ts (Also (OfOpened copied n i) given) h = omega (arith, parameters_long ts given h.1)
+parameters_long ts (Also (Spelled cs count) given) h = absurd h.0
 
 -- a request takes as many words as its parameters are
 request_long : (r : request.Request) → (request_words r ≡ all_words (request_parameters r)) × (request_words r ≤ 4)
@@ -65,3 +67,9 @@ request_emitted r number given n exit a b c is arguments by =
 -- ---- calls
 pub call_stated : {us : List ℕ} (p levels n : ℕ) (given : Arguments) (exit : Option ℕ) (a b : Draft) → Adds us a b (Called p levels given) → Adds us a b (Stated n exit (Call p levels given))
 call_stated p levels n given exit a b = emits_as a b _ (Stated n exit (Call p levels given)) (λ x t many taken sound room. t None sound.0 sound.1 sound.2.takes sound.2.sound)
+
+pub call_value_emitted : {us vs : List ℕ} (e : Expression) (given : Arguments) (n : ℕ) (exit : Option ℕ) (a b c : Draft) → Adds us a b (Value e)
+    → Adds vs b c (ValueCalled given) → Adds (us ++ vs) a c (Stated n exit (CallValue e given))
+call_value_emitted e given n exit a b c value call =
+    emits_as a c _ (Stated n exit (CallValue e given)) (λ x t many taken sound room. t None sound.0 sound.1 sound.2)
+    (valued_emitted e given a b c value call)

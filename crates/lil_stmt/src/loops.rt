@@ -56,7 +56,8 @@ fn statement_words(statement: &RStmt) -> u16
         | RStmt::Halt
         | RStmt::Return
         | RStmt::Answer(_, _)
-        | RStmt::Call(_, _, _) => 0,
+        | RStmt::Call(_, _, _)
+        | RStmt::CallValue(_, _) => 0,
     }
 }
 

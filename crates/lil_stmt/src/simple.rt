@@ -2,7 +2,7 @@
 
 ghost use Rattle.std.specs.{Prelude.{◌≡◌, ℕ, Option, OnOk}, List.flat_map};
 ghost use Rattle.lil_resolved.specs.Resolved as resolved;
-ghost use Rattle.lil_resolved.specs.{Resolved.{Assign, Copy, Change, Member, New, Allocate, Exit, Answer}, Views.{arguments_of, kind_view, place_of, is_down, is_out, is_back, expression_of}};
+ghost use Rattle.lil_resolved.specs.{Resolved.{Assign, Copy, Change, Member, New, Allocate, Exit, Answer, CallValue}, Views.{arguments_of, kind_view, place_of, is_down, is_out, is_back, expression_of}};
 ghost use Rattle.lil_asm.specs.Bytes.{Sayable};
 ghost use Rattle.lil_table.specs.Rows.{member_code, allocate_code};
 ghost use Rattle.lil_labels.specs.Drafts.{DoingAll, Each, Adds, Emits};
@@ -14,7 +14,9 @@ use crate::statements::Around;
 use crate::targets::{emit_again, emit_store, emit_target, emit_under};
 use lil_asm::Instr;
 use lil_base::{Memory, Request, Text};
-use lil_expr::{emit_address_of, emit_argument, emit_expression, emit_test, emit_tested};
+use lil_expr::{
+    emit_address_of, emit_argument, emit_expression, emit_test, emit_tested, emit_value_call,
+};
 use lil_labels::{Aim, CodeBuffer};
 use lil_resolved::{Allocation, Direction, Membership, RArgument, RBase, RExpr, RKind, RPlace};
 
@@ -178,6 +180,18 @@ fn emit_arguments(code: &mut CodeBuffer<'_>, given: &[RArgument]) -> Result<(), 
         emit_argument(code, argument, false)?;
     }
     Ok(())
+}
+
+/// Appends the code of a call of the procedure that is a value: the value, and the call behind it.
+pub(crate) fn emit_called_value(
+    code: &mut CodeBuffer<'_>,
+    value: &RExpr,
+    given: &[RArgument],
+) -> Result<(), Memory>
+    ensures { OnOk result ((n : ℕ) (exit : Option ℕ) → Says code.old code.new n exit (CallValue (expression_of value.now) (arguments_of given.now))) }
+{
+    emit_expression(code, value)?;
+    emit_value_call(code, given)
 }
 
 /// Appends the code of an EXIT: a jump behind the LOOP around it.

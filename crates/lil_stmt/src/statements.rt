@@ -9,8 +9,8 @@ use crate::cases::emit_choice;
 use crate::kinds::{emit_turn_test, loop_sign};
 use crate::loops::loop_place;
 use crate::simple::{
-    emit_allocate, emit_answer, emit_assign, emit_change, emit_copy, emit_exit, emit_member,
-    emit_new, emit_request, emit_text,
+    emit_allocate, emit_answer, emit_assign, emit_called_value, emit_change, emit_copy, emit_exit,
+    emit_member, emit_new, emit_request, emit_text,
 };
 use crate::starts::emit_align;
 use crate::targets::emit_store;
@@ -79,6 +79,7 @@ fn emit_statement(
         RStmt::Call(procedure, levels, given) => {
             emit_call(code, *procedure, *levels, given.as_slice())
         }
+        RStmt::CallValue(value, given) => emit_called_value(code, value, given.as_slice()),
     }
 }
 

@@ -2,12 +2,12 @@
 use Rattle.std.proofs.Common.{◌≡◌, ℕ, zero, suc, ◌+◌, ◌-◌, ◌*◌, ◌≤◌, Bool, true, false, cond, if◌then◌else◌, List, [], ◌∷◌, ◌++◌, Option, Some, None, length, take, refl, ap, ◌∙◌, arith}
 use Rattle.lil_base.specs.{Words.{Whole, Cardinal, Integer, word_of}, declared.operator.{OneOp.OneOp, TwoOp.{TwoOp, TheVariants.{Equal, Unequal, Less, AtMost, Greater, AtLeast, In, Plus, Minus, Times, Slash, Or, And}}}, Requests.request_number}
 use Rattle.lil_base.specs.declared.operator.OneOp.TheVariants as one
-use Rattle.lil_resolved.specs.Kinds.{Kind, OfWhole, OfCharacter, OfSet, OfPointer, base_of, compared_as, covers, shared, outside_turns, Shape, Absent, Word, Blank, Join, Row, Address, Opened, words, all_words, shape_at}
-use Rattle.lil_resolved.specs.Resolved.{Named, OfModule, OfLevel, Designator, Variable, Handed, Along, Held, Field, Element, Follow, Function, Abs, Cap, Chr, Odd, Ord, Val, Expression, Constant, Taken, One, Two, Short, Apply, With, WithSpan, Invoke, High, Argument, ByValue, OfPlace, OfAll, OfArray, OfText, OfOpened, Arguments, NoMore, Also, Label, Statement, Assign, Copy, Text, Change, Member, New, Allocate, Request, If, Case, While, Repeat, Loop, Exit, Halt, Return, Answer, Call, For, Inside, Statements, Empty, Then, Arms, NoElse, Else, Arm, Procedure, Resolved, kind_of, counted_as, shape_of}
-use Rattle.lil_resolved.specs.Sizes.{statement_words, body_words, arms_words, frame_words, argument_words, argument_size, pushed_size, handed_size, one_size, two_size, test_size, function_size, Form, Direct, Outward, variable_form, Exact, Beyond, field_form, form_of, address_size, load_size, ready_size, store_size, again_size, under_size, place_size, target_size, size, arguments_size, allocate_size, statement_size, body_size, arms_size, leave_size, copy_size, copies_size, framed_size, procedures_size, code_size}
+use Rattle.lil_resolved.specs.Kinds.{Kind, OfWhole, OfCharacter, OfSet, OfPointer, OfProcedure, base_of, compared_as, covers, shared, outside_turns, Shape, Absent, Word, Blank, Join, Row, Address, Opened, words, all_words, shape_at}
+use Rattle.lil_resolved.specs.Resolved.{Named, OfModule, OfLevel, Designator, Variable, Handed, Along, Held, Field, Element, Follow, Function, Abs, Cap, Chr, Odd, Ord, Val, Expression, Constant, Taken, One, Two, Short, Apply, With, WithSpan, Invoke, High, Routine, InvokeValue, Argument, ByValue, OfPlace, OfAll, OfArray, OfText, OfOpened, Spelled, Arguments, NoMore, Also, Label, Statement, Assign, Copy, Text, Change, Member, New, Allocate, Request, If, Case, While, Repeat, Loop, Exit, Halt, Return, Answer, Call, CallValue, For, Inside, Statements, Empty, Then, Arms, NoElse, Else, Arm, Procedure, Resolved, kind_of, counted_as, shape_of}
+use Rattle.lil_resolved.specs.Sizes.{statement_words, body_words, arms_words, frame_words, argument_words, argument_size, zeros_size, pushed_size, handed_size, one_size, two_size, test_size, function_size, Form, Direct, Outward, variable_form, Exact, Beyond, field_form, form_of, address_size, load_size, ready_size, store_size, again_size, under_size, place_size, target_size, size, arguments_size, allocate_size, statement_size, body_size, arms_size, leave_size, copy_size, copies_size, framed_size, procedures_size, code_size}
 use Rattle.lil_resolved.specs.Sound.{takes_two}
-use Rattle.lil_asm.specs.{declared.instr.Instr.{Instr, TheVariants.{Liw, Lag, Dup, Drp, Nlt, Llw, Slw, Swp, Rgc, Lsi, Spn, Sav, Rst, Mrk, Psh, Psm, Cll, Ent, Ixo, Rtn, Jmp, Jpf, Cas, Fri, Frn, Trp, Alc, Svc}}, Bytes.bytes_of, Decoding.decoded_stands, Stretches.stretch}
-use Rattle.lil_table.specs.Rows.{Layout, given_words, framed, in_procedure, holding, ArgumentAt, GivenAt, IsAt, InstrsAt, one_code, whole_code, two_code, range_code, test_code, function_code, Access, InData, InFrame, access_at, OnTop, Behind, further, access_of, address_code, load_code, ready_code, readied, held, store_code, again_code, under_code, change_operator, change_code, member_code, allocate_code, short_code, loop_place, loop_sign, ValueRow, TargetRow, EntriesAt, AlignAt, PlaceAt, ExpressionAt, ArgumentsAt, StatementAt, BodyAt, ArmsAt, leave_code, frame_code, second_code, text_words, copy_code, copies_code, FramedRow, ProceduresAt, TranslatesBy}
+use Rattle.lil_asm.specs.{declared.instr.Instr.{Instr, TheVariants.{Liw, Lag, Dup, Drp, Nlt, Llw, Slw, Swp, Rgc, Lsi, Spn, Sav, Rst, Mrk, Mrf, Psh, Psm, Cll, Clf, Sbc, Jor, Ent, Ixo, Rtn, Jmp, Jpf, Cas, Fri, Frn, Trp, Alc, Svc}}, Bytes.bytes_of, Decoding.decoded_stands, Stretches.stretch}
+use Rattle.lil_table.specs.Rows.{Layout, Span, given_words, framed, in_procedure, holding, ArgumentAt, GivenAt, ZerosAt, ValueCallRow, IsAt, InstrsAt, one_code, whole_code, two_code, range_code, test_code, function_code, Access, InData, InFrame, access_at, OnTop, Behind, further, access_of, address_code, load_code, ready_code, readied, held, store_code, again_code, under_code, change_operator, change_code, member_code, allocate_code, short_code, loop_place, loop_sign, ValueRow, TargetRow, EntriesAt, AlignAt, PlaceAt, ExpressionAt, ArgumentsAt, StatementAt, BodyAt, ArmsAt, leave_code, frame_code, second_code, text_words, copy_code, copies_code, FramedRow, ProceduresAt, TranslatesBy}
 
 -- the bytes of an instruction, and of several
 abbrev pub instr_size : Instr → ℕ
@@ -47,6 +47,7 @@ two_sized o (OfWhole Integer) h = refl
 two_sized Equal (OfPointer to) h = refl
 two_sized Unequal (OfPointer to) h = refl
 two_sized o (OfPointer to) h = cc
+two_sized o (OfProcedure n) h = cc
 two_sized Equal k h = refl
 two_sized Unequal k h = refl
 two_sized Less k h = refl
@@ -167,6 +168,7 @@ plain_pushes calls (OfAll d) = 0
 plain_pushes calls (OfArray copied d high) = pushes_size calls
 plain_pushes calls (OfText cs) = pushes_size calls
 plain_pushes calls (OfOpened copied n x) = pushes_size calls
+plain_pushes calls (Spelled cs count) = 0
 
 no_pushes : (a : Argument) → plain_pushes false a ≡ 0
 no_pushes (ByValue k e) = refl
@@ -175,6 +177,7 @@ no_pushes (OfAll d) = refl
 no_pushes (OfArray copied d high) = refl
 no_pushes (OfText cs) = refl
 no_pushes (OfOpened copied n x) = refl
+no_pushes (Spelled cs count) = refl
 
 second_sized : (calls : Bool) (i : Instr) → instrs_size (second_code calls i) ≡ pushes_size calls + instr_size i
 second_sized false i = omega arith
@@ -223,6 +226,15 @@ instrs_long code (i ∷ is) p q h = omega (arith, instr_long code p i h.0 h.1, i
 
 test_long : (code : List ℕ) (k j : Kind) (p q : ℕ) → InstrsAt code (test_code k j) p q → q ≡ p + test_size k j
 test_long code k j p q h = omega (arith, instrs_long code (test_code k j) p q h, test_sized k j)
+
+zeros_long : (l : Layout) (code : List ℕ) (z p q : ℕ) → ZerosAt l code z p q → q ≡ p + zeros_size z
+zeros_long l code zero p q h = omega (arith, h)
+zeros_long l code (suc z) p q h =
+    omega (arith, instr_long code p (Liw (suc z)) h.turn h.load, instrs_long code (Liw 0 ∷ Psh ∷ Liw 1 ∷ Sbc ∷ []) h.turn h.end h.by, instr_long code h.end (Jor (l.target h.turn)) q h.back)
+
+-- a call behind the value that is called
+value_call_long : (l : Layout) (code : List ℕ) (j : Kind) (result : Option Kind) (given : Arguments) (pushes : Span) (p q n : ℕ) (h : ValueCallRow l code j result given pushes p q) → h.middle ≡ h.start + n → q ≡ p + (4 + n)
+value_call_long l code j result given pushes p q n h long = omega (arith, instr_long code p Mrf h.start h.mark, long, instr_long code h.middle (Clf (framed (given_words l.scope given))) q h.call)
 
 mutual
   pub place_long : (l : Layout) (code : List ℕ) (d : Designator) (p q : ℕ) → PlaceAt l code d p q → q ≡ p + place_size d
@@ -289,12 +301,21 @@ mutual
       omega (
         arith,
         instr_long code p Sav h.saved h.save,
-        instr_long code h.saved (Mrk n) h.call.start h.call.mark,
-        given_long l code given h.call.start h.call.middle h.call.arguments,
-        instr_long code h.call.middle (Cll x (framed (given_words l.scope given))) h.end h.call.call,
+        instr_long code h.saved (Mrk n) h.its.start h.its.mark,
+        given_long l code given h.its.start h.its.middle h.its.arguments,
+        instr_long code h.its.middle (Cll x (framed (given_words l.scope given))) h.end h.its.call,
         instr_long code h.end (Rst 1) q h.restore,
       )
   expression_long l code (High n x) p q h = omega (arith, instr_long code p (frame_code n (h.opened.offset + 1)) q h.load, frame_sized n (h.opened.offset + 1))
+  expression_long l code (Routine x n) p q h = instr_long code p _ q h.load
+  expression_long l code (InvokeValue e k given) p q h =
+      omega (
+        arith,
+        instr_long code p Sav h.saved h.save,
+        expression_long l code e h.saved h.its.start h.its.value.value,
+        value_call_long l code (kind_of e) (Some k) given (GivenAt l code given) h.its.start h.end (pushed_size given) h.its.call (given_long l code given h.its.call.start h.its.call.middle h.its.call.arguments),
+        instr_long code h.end (Rst 1) q h.restore,
+      )
 
   argument_long : (l : Layout) (code : List ℕ) (calls : Bool) (n : ℕ) (a : Argument) (p q : ℕ) → ArgumentAt l code calls n a p q → q ≡ p + (plain_pushes calls a + argument_size a)
   argument_long l code calls n (ByValue k e) p q h = omega (arith, expression_long l code e p h.middle h.value.value, test_long code k (kind_of e) h.middle q h.test)
@@ -313,6 +334,8 @@ mutual
         instrs_long code (second_code calls (frame_code i (h.opened.offset + 1))) h.start q h.by,
         second_sized calls (frame_code i (h.opened.offset + 1)),
       )
+  argument_long l code calls n (Spelled cs count) p q h =
+      omega (arith, instr_long code p (Lag h.offset) h.start h.address, instr_long code h.start (Psm (length cs)) h.last h.push, zeros_long l code (count - length cs) h.last q h.fill)
 
   -- those of a call, each with the instruction that pushes it
   given_long : (l : Layout) (code : List ℕ) (given : Arguments) (p q : ℕ) → GivenAt l code given p q → q ≡ p + pushed_size given
@@ -323,6 +346,7 @@ mutual
   given_long l code (Also (OfArray copied d high) given) p q h = omega (arith, argument_long l code true 0 (OfArray copied d high) p h.here.middle h.here.here, instr_long code h.here.middle Psh h.middle h.here.push, given_long l code given h.middle q h.then)
   given_long l code (Also (OfText cs) given) p q h = omega (arith, argument_long l code true 0 (OfText cs) p h.here.middle h.here.here, instr_long code h.here.middle Psh h.middle h.here.push, given_long l code given h.middle q h.then)
   given_long l code (Also (OfOpened copied n x) given) p q h = omega (arith, argument_long l code true 0 (OfOpened copied n x) p h.here.middle h.here.here, instr_long code h.here.middle Psh h.middle h.here.push, given_long l code given h.middle q h.then)
+  given_long l code (Also (Spelled cs count) given) p q h = omega (arith, argument_long l code true 0 (Spelled cs count) p h.middle h.here, given_long l code given h.middle q h.then)
 
 -- a place and its address
 addressed_long : (l : Layout) (code : List ℕ) (d : Designator) (p found q : ℕ) → PlaceAt l code d p found → InstrsAt code (address_code (access_of l d)) found q → q ≡ p + (place_size d + address_size (form_of d))
@@ -424,6 +448,7 @@ mutual
   statement_long l code n exit (Answer k e) p q h = omega (arith, value_long l code 0 e k p h.middle h.value, instr_long code h.middle Rtn q h.leave)
   statement_long l code n exit (Call x i given) p q h =
       omega (arith, instr_long code p (Mrk i) h.start h.mark, given_long l code given h.start h.middle h.arguments, instr_long code h.middle (Cll x (framed (given_words l.scope given))) q h.call)
+  statement_long l code n exit (CallValue e given) p q h = omega (arith, expression_long l code e p h.start h.value.value, value_call_long l code (kind_of e) None given (GivenAt l code given) h.start q (pushed_size given) h.call (given_long l code given h.call.start h.call.middle h.call.arguments))
   statement_long l code n exit (For x k a b step body) p q h =
       let t = h.turns in
       let r = t.round in

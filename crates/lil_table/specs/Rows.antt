@@ -4,16 +4,16 @@ use Rattle.std.specs.Prelude.{◌≡◌, ℕ, zero, suc, ◌+◌, ◌-◌, ◌*�
 use Rattle.lil_base.specs.{Words.{Whole, Cardinal, Integer, word_of}, declared.operator.{OneOp.OneOp, TwoOp.{TwoOp, TheVariants.{Equal, Unequal, Less, AtMost, Greater, AtLeast, In, Plus, Minus, Times, Slash, Div, Mod}}}, Requests.request_number}
 use Rattle.lil_base.specs.declared.operator.OneOp.TheVariants as one
 use Rattle.lil_base.specs.declared.request.Request as request
-use Rattle.lil_resolved.specs.Kinds.{Objects, Workspaces, Kind, OfWhole, OfTruth, OfCharacter, OfSet, OfPointer, base_of, is_ordinal, is_set, is_plain, is_element, takes_value, stores_value, compared_as, covers, shared, outside_turns, least, numbers, Scalar, is_literal, scalar_word, Shape, Absent, Word, Blank, Join, Row, Address, Opened, Scope, with_held, MayCall, parameters_of, result_of, result_here, parameters_at, locals_at, words, is_there, part_at, offset, all_words, offsets_from, shape_at, element_of, procedure_by}
-use Rattle.lil_resolved.specs.Resolved.{Named, OfModule, OfLevel, variable_at, Designator, Variable, Handed, Along, Held, Field, Element, Follow, Function, Abs, Cap, Chr, Odd, Ord, Val, Expression, Constant, Taken, One, Two, Short, Apply, With, WithSpan, Invoke, High, Argument, ByValue, OfPlace, OfAll, OfArray, OfText, OfOpened, Arguments, NoMore, Also, Label, Statement, Assign, Copy, Text, Change, Member, New, Allocate, Request, If, Case, While, Repeat, Loop, Exit, Halt, Return, Answer, Call, For, Inside, Statements, Empty, Then, Arms, NoElse, Else, Arm, Procedure, Resolved, scope_in, kind_of, right_kind, counted_as, shape_of}
+use Rattle.lil_resolved.specs.Kinds.{Objects, Workspaces, Kind, OfWhole, OfTruth, OfCharacter, OfSet, OfPointer, OfProcedure, base_of, is_ordinal, is_set, is_plain, is_element, takes_value, stores_value, compared_as, covers, shared, outside_turns, least, numbers, Scalar, is_literal, scalar_word, procedure_word, Shape, Absent, Word, Blank, Join, Row, Address, Opened, Scope, with_held, MayCall, MayHold, parameters_of, result_of, result_here, parameters_at, locals_at, words, is_there, part_at, offset, all_words, offsets_from, shape_at, element_of, procedure_by}
+use Rattle.lil_resolved.specs.Resolved.{Named, OfModule, OfLevel, variable_at, Designator, Variable, Handed, Along, Held, Field, Element, Follow, Function, Abs, Cap, Chr, Odd, Ord, Val, Expression, Constant, Taken, One, Two, Short, Apply, With, WithSpan, Invoke, High, Routine, InvokeValue, Argument, ByValue, OfPlace, OfAll, OfArray, OfText, OfOpened, Spelled, Arguments, NoMore, Also, Label, Statement, Assign, Copy, Text, Change, Member, New, Allocate, Request, If, Case, While, Repeat, Loop, Exit, Halt, Return, Answer, Call, CallValue, For, Inside, Statements, Empty, Then, Arms, NoElse, Else, Arm, Procedure, Resolved, scope_in, kind_of, right_kind, counted_as, shape_of}
 use Rattle.lil_resolved.specs.{Sizes.{place_depth, depth, frame_words, argument_words}, Sound.{AreServed, takes_one, takes_two, takes_function, IsScalar, IsSoundLabel, IsStep, is_text, request_parameters, parameters_given}}
 use Rattle.lil_asm.specs.declared.instr.Instr.{Instr}
-use Rattle.lil_asm.specs.declared.instr.Instr.TheVariants.{Liw, Dup, Drp, Llw, Slw, Lgw, Sgw, Lnw, Snw, Lal, Lan, Lag, Ldi, Sti, Ldf, Adf, Mov, Mvz, Nlt, Ixc, Ixo, Swp, Rgc, Rgi, Cap, Adc, Sbc, Mlc, Dvc, Mdc, Adi, Sbi, Mli, Dvi, Mdi, Ngi, Abi, Uni, Dif, Its, Sym, Sin, Spn, Icl, Ecl, Sle, Not, Equ, Neq, Lsc, Lec, Lsi, Lei, Sav, Rst, Mrk, Psh, Psm, Cll, Ent, Cpy, Rtn, Jmp, Jpf, Jan, Jor, Cas, Fri, Frn, Trp, Alc, Svc}
+use Rattle.lil_asm.specs.declared.instr.Instr.TheVariants.{Liw, Dup, Drp, Llw, Slw, Lgw, Sgw, Lnw, Snw, Lal, Lan, Lag, Ldi, Sti, Ldf, Adf, Mov, Mvz, Nlt, Ixc, Ixo, Swp, Rgc, Rgi, Cap, Adc, Sbc, Mlc, Dvc, Mdc, Adi, Sbi, Mli, Dvi, Mdi, Ngi, Abi, Uni, Dif, Its, Sym, Sin, Spn, Icl, Ecl, Sle, Not, Equ, Neq, Lsc, Lec, Lsi, Lei, Sav, Rst, Mrk, Mrf, Psh, Psm, Cll, Clf, Ent, Cpy, Rtn, Jmp, Jpf, Jan, Jor, Cas, Fri, Frn, Trp, Alc, Svc}
 use Rattle.lil_asm.specs.{Bytes.{word_at, decoded}, Requests.request_words, Stretches.stretch}
 
 -- Where the variables of a module lie in its data frame, by their numbers; the shapes that names reach, and the words of the frame that
 -- have the addresses of the records of the WITHs around, the innermost first; how many words the variables take, and the words of the
--- strings behind them; the words of the frame; and how a place in a jump and a number of entries are written.
+-- strings behind them; the words of the frame; how a place in a jump and a number of entries are written; and the number of the module.
 pub record Layout : Type 0 where
   pub offsets : List ℕ
   pub scope : Scope
@@ -22,6 +22,7 @@ pub record Layout : Type 0 where
   pub strings : List ℕ
   pub frame : ℕ
   pub target : ℕ → ℕ
+  pub number : ℕ
 
 -- a number as it is, and cut to 16 bits
 abbrev pub exactly : ℕ → ℕ
@@ -29,6 +30,10 @@ exactly q = q
 
 abbrev pub cut : ℕ → ℕ
 cut q = q % 65536
+
+-- the number of a module that is loaded alone
+abbrev pub lone_number : ℕ
+lone_number = 1
 
 abbrev pub layout_by : (ℕ → ℕ) → List ℕ → Resolved → Layout
 layout_by target strings m = record {
@@ -39,6 +44,7 @@ layout_by target strings m = record {
   strings = strings;
   frame = frame_words [] m.body;
   target = target;
+  number = lone_number;
 }
 
 abbrev pub layout_of : List ℕ → Resolved → Layout
@@ -495,6 +501,31 @@ pub record HandedOnRow (l : Layout) (code : List ℕ) (calls : Bool) (k n x p q 
   pub first : IsAt code p (frame_code n opened.offset) start
   pub by : InstrsAt code (second_code calls (frame_code n (opened.offset + 1))) start q
 
+-- so many zeros go to the frame that a call begins: the number is counted down
+pub record ZerosRow (l : Layout) (code : List ℕ) (count p q : ℕ) : Type 0 where
+  pub turn : ℕ
+  pub end : ℕ
+  pub load : IsAt code p (Liw count) turn
+  pub by : InstrsAt code (Liw 0 ∷ Psh ∷ Liw 1 ∷ Sbc ∷ []) turn end
+  pub back : IsAt code end (Jor (l.target turn)) q
+
+abbrev pub ZerosAt : Layout → List ℕ → ℕ → Span
+ZerosAt l code zero p q = p ≡ q
+ZerosAt l code (suc z) p q = ZerosRow l code (suc z) p q
+
+-- a string for an array by value, which goes to the frame that a call begins, with zeros behind it to the array's end
+pub record SpelledRow (l : Layout) (code : List ℕ) (n : ℕ) (cs : List ℕ) (count p q : ℕ) : Type 0 where
+  pub offset : ℕ
+  pub start : ℕ
+  pub last : ℕ
+  pub room : n + 2 ≤ 16
+  pub fits : length cs ≤ count
+  pub low : count ≤ 65535
+  pub text : HasText l cs offset
+  pub address : IsAt code p (Lag offset) start
+  pub push : IsAt code start (Psm (length cs)) last
+  pub fill : ZerosAt l code (count - length cs) last q
+
 pub record ArgumentRow (argument rest : Span) (p q : ℕ) : Type 0 where
   pub middle : ℕ
   pub here : argument p middle
@@ -508,11 +539,22 @@ push_code ts (OfAll d) = Psm (words (shape_of ts d))
 push_code ts (OfArray copied d high) = Psh
 push_code ts (OfText cs) = Psh
 push_code ts (OfOpened copied n x) = Psh
+push_code ts (Spelled cs count) = Psm (length cs)
 
 pub record PushedRow (l : Layout) (code : List ℕ) (a : Argument) (argument : Span) (p q : ℕ) : Type 0 where
   pub middle : ℕ
   pub here : argument p middle
   pub push : IsAt code middle (push_code l.scope a) q
+
+-- a string for an array by value goes there with its address
+abbrev pub PushedAt : Layout → List ℕ → Argument → Span → Span
+PushedAt l code (ByValue k e) argument = PushedRow l code (ByValue k e) argument
+PushedAt l code (OfPlace d) argument = PushedRow l code (OfPlace d) argument
+PushedAt l code (OfAll d) argument = PushedRow l code (OfAll d) argument
+PushedAt l code (OfArray copied d high) argument = PushedRow l code (OfArray copied d high) argument
+PushedAt l code (OfText cs) argument = PushedRow l code (OfText cs) argument
+PushedAt l code (OfOpened copied n x) argument = PushedRow l code (OfOpened copied n x) argument
+PushedAt l code (Spelled cs count) argument = argument
 
 -- how many words arguments take there
 abbrev pub given_words : Scope → Arguments → ℕ
@@ -529,12 +571,35 @@ pub record CallRow (l : Layout) (code : List ℕ) (x n : ℕ) (result : Option K
   pub arguments : pushes start middle
   pub call : IsAt code middle (Cll x (framed (given_words l.scope given))) q
 
+-- a procedure as a value: the word of its module's number and its own
+pub record RoutineRow (l : Layout) (code : List ℕ) (x n p q : ℕ) : Type 0 where
+  pub may : MayHold l.scope x n
+  pub low : x < 256
+  pub load : IsAt code p (Liw (procedure_word l.number x)) q
+
+-- what follows the value of a procedure type that is called: a mark, the arguments, and the call
+pub record ValueCallRow (l : Layout) (code : List ℕ) (k : Kind) (result : Option Kind) (given : Arguments) (pushes : Span) (p q : ℕ) : Type 0 where
+  pub number : ℕ
+  pub kind : k ≡ OfProcedure number
+  pub known : slice_get l.scope.signatures number ≡ Some (record { parameters = parameters_given l.scope given; result = result })
+  pub start : ℕ
+  pub middle : ℕ
+  pub mark : IsAt code p Mrf start
+  pub arguments : pushes start middle
+  pub call : IsAt code middle (Clf (framed (given_words l.scope given))) q
+
+-- the value, and then the call
+pub record ValuedRow (l : Layout) (code : List ℕ) (e : Expression) (result : Option Kind) (given : Arguments) (its pushes : Span) (p q : ℕ) : Type 0 where
+  pub start : ℕ
+  pub value : AloneRow 0 e (kind_of e) its p start
+  pub call : ValueCallRow l code (kind_of e) result given pushes start q
+
 -- a call of a function: what stands on the expression stack is saved before, and is there again below the value
-pub record InvokeRow (l : Layout) (code : List ℕ) (x n : ℕ) (k : Kind) (given : Arguments) (pushes : Span) (p q : ℕ) : Type 0 where
+pub record InvokeRow (code : List ℕ) (call : Span) (p q : ℕ) : Type 0 where
   pub saved : ℕ
   pub end : ℕ
   pub save : IsAt code p Sav saved
-  pub call : CallRow l code x n (Some k) given pushes saved end
+  pub its : call saved end
   pub restore : IsAt code end (Rst 1) q
 
 abbrev mutual
@@ -556,8 +621,10 @@ abbrev mutual
   ExpressionAt l code (Apply f a) p q = ApplyRow code f a (ExpressionAt l code a) p q
   ExpressionAt l code (With s k a) p q = WithRow code s k a (ExpressionAt l code s) (ExpressionAt l code a) p q
   ExpressionAt l code (WithSpan s k a b) p q = SpanRow code s k a b (ExpressionAt l code s) (ExpressionAt l code a) (ExpressionAt l code b) p q
-  ExpressionAt l code (Invoke x n k given) p q = InvokeRow l code x n k given (GivenAt l code given) p q
+  ExpressionAt l code (Invoke x n k given) p q = InvokeRow code (CallRow l code x n (Some k) given (GivenAt l code given)) p q
   ExpressionAt l code (High n x) p q = HighRow l code n x p q
+  ExpressionAt l code (Routine x n) p q = RoutineRow l code x n p q
+  ExpressionAt l code (InvokeValue e k given) p q = InvokeRow code (ValuedRow l code e (Some k) given (ExpressionAt l code e) (GivenAt l code given)) p q
 
   -- an argument, of a call or a request, with n words of others below it
   pub ArgumentAt : Layout → List ℕ → Bool → ℕ → Argument → Span
@@ -567,11 +634,12 @@ abbrev mutual
   ArgumentAt l code calls n (OfArray copied d high) p q = ArrayRow l code calls n d high (PlaceAt l code d) p q
   ArgumentAt l code calls n (OfText cs) p q = StringRow l code calls n cs p q
   ArgumentAt l code calls n (OfOpened copied i x) p q = HandedOnRow l code calls n i x p q
+  ArgumentAt l code calls n (Spelled cs count) p q = SpelledRow l code n cs count p q
 
   -- the arguments of a call, one behind another
   pub GivenAt : Layout → List ℕ → Arguments → Span
   GivenAt l code NoMore p q = p ≡ q
-  GivenAt l code (Also a given) p q = ArgumentRow (PushedRow l code a (ArgumentAt l code true 0 a)) (GivenAt l code given) p q
+  GivenAt l code (Also a given) p q = ArgumentRow (PushedAt l code a (ArgumentAt l code true 0 a)) (GivenAt l code given) p q
 
 -- values, each by its code
 abbrev pub WholeRow : Layout → List ℕ → ℕ → Expression → Kind → Span
@@ -910,6 +978,7 @@ abbrev mutual
   StatementAt l code n exit Return p q = (result_here l.scope ≡ None) × IsAt code p Rtn q
   StatementAt l code n exit (Answer k e) p q = AnswerRow l code k e p q
   StatementAt l code n exit (Call x i given) p q = CallRow l code x i None given (GivenAt l code given) p q
+  StatementAt l code n exit (CallValue e given) p q = ValuedRow l code e None given (ExpressionAt l code e) (GivenAt l code given) p q
   StatementAt l code n exit (For v k a b step body) p q = ForRow l code n v k a b step (BodyAt l code (3 + n) exit body) p q
   StatementAt l code n exit (Inside d body) p q = InsideRow l code n d (BodyAt (holding l (shape_of l.scope d) (framed (loop_place n))) code (suc n) exit body) p q
 

@@ -20,7 +20,7 @@ const ENDLESS: &[u8] = b"MODULE L; FROM Terminal IMPORT Write; BEGIN LOOP Write(
 /// What the endless program shows in 1000 steps.
 const ALL_X: [u8; 333] = [b'x'; 333];
 
-const NOT_BUILT: &[u8] = b"MODULE N; VAR p: PROC; END N.";
+const NOT_BUILT: &[u8] = b"MODULE N; FROM SYSTEM IMPORT PROCESS; END N.";
 
 const HELLO_MOD: &[u8] = b"Hello.MOD";
 
@@ -28,7 +28,7 @@ const TOO_MANY: &[u8] = b"once Hello.MOD Hello.MOD";
 
 const OVERFLOWS: &[u8] = b"trap overflow in C\n";
 
-const ISNT_BUILT: &[u8] = b"N.MOD:1:18: 90 NotBuilt\n";
+const ISNT_BUILT: &[u8] = b"N.MOD:1:30: 90 NotBuilt\n";
 
 const NO_FILE: &[u8] = b"no file Q.MOD\n";
 

@@ -1,1 +1,2 @@
+mod FieldNames
 mod Sums

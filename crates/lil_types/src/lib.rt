@@ -2,11 +2,13 @@
 #![tactic(auto)]
 
 mod adding;
+mod fields;
 mod folding;
 mod relations;
 mod table;
 
 pub use adding::{add, own, values};
+pub use fields::{FieldAt, Fields};
 pub use folding::{fits, fold_one, fold_two};
 pub use relations::{assignable, base, compatible, entry, is_whole, known, meant, same, words};
 pub use table::{

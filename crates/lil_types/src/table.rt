@@ -2,6 +2,7 @@ ghost use Rattle.std.specs.Prelude.{◌≡◌, ◌++◌, ◌∷◌, ◌<◌, ◌
 ghost use Rattle.std.specs.Option.{option_copied};
 ghost use Rattle.lil_types.specs.Types.{facts, span, aimed, meets as spec_meets, is_pointer as is_pointer_form};
 
+use crate::fields::Fields;
 use lil_base::{Items, Memory, Name, Text};
 use std::alloc::Global;
 use std::marker::Model;
@@ -77,7 +78,7 @@ pub enum TypeForm {
     Enumeration(Items<Name>),
     Subrange(TypeId, Span),
     Array(TypeId, TypeId),
-    Record(Items<Field>),
+    Record(Fields),
     SetOf(TypeId),
     Pointer(TypeId),
     Procedure(Items<Parameter>, Option<TypeId>),

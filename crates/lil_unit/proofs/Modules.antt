@@ -123,6 +123,7 @@ entered own x = record {
     each = x.described.each;
     held = x.described.held;
     held_shapes = x.described.held_shapes;
+    number = x.described.number;
   };
   room = x.room;
   word = x.word;
@@ -245,6 +246,7 @@ module _ (r : RModule) (entries : List ℕ) (d : Draft) (sound : IsSound (module
     each = measured.procedures;
     held = refl;
     held_shapes = refl;
+    number = refl;
   }
 
   -- a procedure and those around it

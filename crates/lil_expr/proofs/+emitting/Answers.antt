@@ -1,14 +1,14 @@
-use Rattle.std.proofs.Common.{◌≡◌, ℕ, ◌-◌, ◌%◌, Bool, List, length, arith, ap, sym, ◌∙◌, subst, OnOk, Some, None}
+use Rattle.std.proofs.Common.{◌≡◌, ℕ, ◌-◌, ◌%◌, Bool, List, length, arith, ap, sym, ◌∙◌, subst, IfOk, OnOk, Some, None}
 use Rattle.lil_base.specs.Words.{Integer}
-use Rattle.lil_resolved.specs.{Kinds.{Kind, OfWhole}, Resolved.{Argument, OfOpened, Expression, Designator, Variable, kind_of}, Sizes.{words_of, expression_strings, place_strings, argument_strings, arguments_strings}, Views.{arguments_of, base_view, kind_view, function_of, expression_of, selector_of, member_of, field_is, index_is, follow_is, one_is, chain_is, apply_is, set_is, single_is, span_is, invoke_is, high_is, named_view, variable_is, handed_is, held_is, of_text_is, of_opened_is, is_copied, argument_of}, declared.resolved.{RArgument.RArgument, RExpr.RExpr, ROperation.{ROperation, out-ROperation}, RPlace.out-RPlace}}
+use Rattle.lil_resolved.specs.{Kinds.{Kind, OfWhole}, Resolved.{Argument, OfOpened, Spelled, Expression, Designator, Variable, kind_of}, Sizes.{words_of, expression_strings, place_strings, argument_strings, arguments_strings}, Views.{arguments_of, base_view, kind_view, function_of, expression_of, selector_of, member_of, field_is, index_is, follow_is, one_is, chain_is, apply_is, set_is, single_is, span_is, invoke_is, high_is, routine_is, invoke_value_is, named_view, variable_is, handed_is, held_is, of_all_is, of_text_is, of_opened_is, spelled_is, is_copied, argument_of}, declared.resolved.{RArgument.RArgument, RExpr.RExpr, ROperation.{ROperation, out-ROperation}, RPlace.out-RPlace}}
 use Rattle.lil_resolved.specs.Views.{root_of}
 use Rattle.lil_resolved.specs.declared.resolved.{RSelector.RSelector, RMember.RMember}
 use Rattle.lil_table.specs.Rows.{Access, OnTop, function_code, load_code}
 use Rattle.lil_asm.specs.declared.instr.Instr.{Instr}
 use Rattle.lil_labels.specs.{Drafts.{DoingAll, Doing, Saying, Each, Adds, Emits}, Emitting.{with_ok}}
 use Rattle.std.specs.List.{flat_map}
-use Rattle.lil_expr.specs.{Accesses.access_view, Calling.{Argued, Called}, Generating.{Found, Value, Joining, Operating, aim_of, member_part, operation_part}, Strings.next_part}
-use Rattle.lil_expr.proofs.{Forms.{one_emitted, apply_emitted}, Chains.{chain_emitted, short_operation, two_operation}, Sets.{single_joins, span_joins, set_emitted}, Calling.{word_pushed, pair_pushed, text_argued, given_next, call_emitted, invoke_emitted}, Opens.{along_found, high_emitted}, Placing.{variable_found, handed_found, held_found, field_selected, element_selected, follow_selected, next_selector, all_selectors}}
+use Rattle.lil_expr.specs.{Accesses.access_view, Calling.{Argued, Pushed, Called, ValueCalled, Saved}, Generating.{Found, Value, Joining, Operating, aim_of, member_part, operation_part}, Strings.next_part, Callees.valued_emitted}
+use Rattle.lil_expr.proofs.{Forms.{one_emitted, apply_emitted, routine_emitted}, Chains.{chain_emitted, short_operation, two_operation}, Sets.{single_joins, span_joins, set_emitted}, Calling.{word_pushed, pair_pushed, spelled_pushed, text_argued, given_next, call_emitted, value_call_emitted, invoke_saved, invoke_value_saved, saved_emitted}, Opens.{along_found, high_emitted}, Placing.{variable_found, handed_found, held_found, field_selected, element_selected, follow_selected, next_selector, all_selectors}}
 use Rattle.lil_expr.proofs.+emitting.Goals as goal
 
 pub expressions::emit_expression-returns-in_ok-emit_expression-in-One : goal.expressions::emit_expression-returns-in_ok-emit_expression-in-One
@@ -103,13 +103,11 @@ expressions::emit_selector-returns-in_ok-put-in-Follow t c =
     follow_selected c.args.selector.now c.in-Follow.pointer c.args.at.shape c.target-shape.result (access_view c.args.at.access) _ _ _
     (λ d. ap (λ (s : RSelector). selector_of s d) c.in-Follow.is ∙ follow_is c.in-Follow.pointer d) c.target-shape.ensures c.in_ok-emit_load-in-Follow.ensures c.in_ok-put-in-Follow.ensures
 
-pub expressions::emit_expression-returns-in_ok-emit_call-in-Invoke : goal.expressions::emit_expression-returns-in_ok-emit_call-in-Invoke
-expressions::emit_expression-returns-in_ok-emit_call-in-Invoke t c =
-    let i = c.in-Invoke in
-    let is = ap expression_of i.is ∙ invoke_is i.procedure i.levels i.field-2 i.given in
-    let call = subst (λ (given : List RArgument). Adds (arguments_strings (arguments_of given)) c.put-in-Invoke.new.self c.emit_call.new.code (Called i.procedure i.levels (arguments_of given))) c.as_slice-in-Invoke.ensures c.in_ok-emit_call-in-Invoke.ensures in
-    subst (λ (e : Expression). OnOk c.put-in-Invoke-2.result (Adds (expression_strings e) c.args.code.now c.put-in-Invoke-2.new.self (Value e))) (sym is)
-    (with_ok c.put-in-Invoke-2.result (invoke_emitted i.procedure i.levels (kind_view i.field-2) (arguments_of i.given) _ _ _ _ c.in_ok-put-in-Invoke.ensures call) c.put-in-Invoke-2.ensures)
+pub expressions::emit_expression-returns-in_ok-emit_invoked-in-Invoke : goal.expressions::emit_expression-returns-in_ok-emit_invoked-in-Invoke
+expressions::emit_expression-returns-in_ok-emit_invoked-in-Invoke t c =
+    with_ok c.put-in-Invoke-2.result
+    (saved_emitted (expression_of c.args.e.now) _ _ _ _ c.in_ok-put-in-Invoke.ensures c.in_ok-emit_invoked-in-Invoke.ensures)
+    c.put-in-Invoke-2.ensures
 
 pub calls::emit_call-returns : goal.calls::emit_call-returns
 calls::emit_call-returns t c = with_ok c.put-2.result (call_emitted c.args.procedure c.args.levels _ (arguments_of c.args.given.now) _ _ _ _ c.in_ok-put.ensures c.in_ok-words.ensures) c.put-2.ensures
@@ -170,3 +168,54 @@ expressions::emit_expression-returns-in-High t c =
 pub roots::emit_along-returns : goal.roots::emit_along-returns
 roots::emit_along-returns t c =
     along_found c.args.levels c.args.number c.words-words.result (expression_of c.args.index.now) c.variable-opened.result _ _ _ _ c.variable-opened.ensures c.words-words.ensures c.in_ok-emit_opened.ensures c.in_ok-emit_tested.ensures.tested c.in_ok-put.ensures
+
+pub expressions::emit_expression-returns-in-Routine : goal.expressions::emit_expression-returns-in-Routine
+expressions::emit_expression-returns-in-Routine t c =
+    let r = c.in-Routine in
+    let is = ap expression_of r.is ∙ routine_is r.procedure r.field-1 in
+    subst (λ (e : Expression). OnOk c.put-in-Routine.result (Adds (expression_strings e) c.args.code.now c.put-in-Routine.new.self (Value e))) (sym is)
+    (with_ok c.put-in-Routine.result (routine_emitted r.procedure r.field-1 c.routine_word.result _ _ (omega arith) c.routine_word.ensures) c.put-in-Routine.ensures)
+
+pub calls::emit_value_call-returns : goal.calls::emit_value_call-returns
+calls::emit_value_call-returns t c =
+    with_ok c.put-2.result (value_call_emitted _ (arguments_of c.args.given.now) _ _ _ _ c.in_ok-put.ensures c.in_ok-words.ensures) c.put-2.ensures
+
+pub calls::emit_invoked-returns-in-Invoke : goal.calls::emit_invoked-returns-in-Invoke
+calls::emit_invoked-returns-in-Invoke t c =
+    let i = c.in-Invoke in
+    let is = ap expression_of i.is ∙ invoke_is i.procedure i.levels i.field-2 i.given in
+    let of = λ (given : List RArgument). Adds (arguments_strings (arguments_of given)) c.args.code.now c.emit_call.new.code (Called i.procedure i.levels (arguments_of given)) in
+    let call = subst (λ (given : List RArgument). OnOk c.emit_call.result (of given)) c.as_slice.ensures c.emit_call.ensures in
+    subst (λ (e : Expression). OnOk c.emit_call.result (Adds (expression_strings e) c.args.code.now c.emit_call.new.code (Saved e))) (sym is)
+    (with_ok c.emit_call.result (invoke_saved i.procedure i.levels (kind_view i.field-2) (arguments_of i.given) _ _) call)
+
+pub calls::emit_invoked-returns-in_ok-emit_expression-in-InvokeValue : goal.calls::emit_invoked-returns-in_ok-emit_expression-in-InvokeValue
+calls::emit_invoked-returns-in_ok-emit_expression-in-InvokeValue t c =
+    let i = c.in-InvokeValue in
+    let e = expression_of i.value in
+    let is = ap expression_of i.is ∙ invoke_value_is i.value i.field-1 i.given in
+    let given = arguments_of i.given in
+    let valued = λ (e : RExpr). Adds (expression_strings (expression_of e)) c.args.code.now c.emit_expression.new.code (Value (expression_of e)) in
+    let value = subst valued c.get.ensures c.in_ok-emit_expression-in-InvokeValue.ensures in
+    let called = λ (given : List RArgument). Adds (arguments_strings (arguments_of given)) c.emit_expression.new.code c.emit_value_call.new.code (ValueCalled (arguments_of given)) in
+    let call = subst (λ (given : List RArgument). OnOk c.emit_value_call.result (called given)) c.as_slice-in-InvokeValue.ensures c.emit_value_call.ensures in
+    subst (λ (e : Expression). OnOk c.emit_value_call.result (Adds (expression_strings e) c.args.code.now c.emit_value_call.new.code (Saved e))) (sym is)
+    (with_ok c.emit_value_call.result (λ those. invoke_value_saved e (kind_view i.field-1) given _ _ (valued_emitted e given _ _ _ value those)) call)
+
+pub calls::emit_pushed-returns-in-All : goal.calls::emit_pushed-returns-in-All
+calls::emit_pushed-returns-in-All t c =
+    let is = ap argument_of c.in-All.is ∙ of_all_is c.in-All.place in
+    subst (λ (g : Argument). IfOk c.emit_block.result (λ words. Adds (argument_strings g) c.args.code.now c.emit_block.new.code (Pushed words g))) (sym is) c.emit_block.ensures
+
+pub calls::emit_pushed-returns-in_ok-emit_argument-in-Spelled : goal.calls::emit_pushed-returns-in_ok-emit_argument-in-Spelled
+calls::emit_pushed-returns-in_ok-emit_argument-in-Spelled t c =
+    spelled_pushed c.args.argument.now c.in-Spelled.field-0 c.in-Spelled.count _ _ c.in-Spelled.is c.in_ok-emit_argument-in-Spelled.ensures
+
+pub calls::emit_argument-returns-in-Spelled : goal.calls::emit_argument-returns-in-Spelled
+calls::emit_argument-returns-in-Spelled t c =
+    let s = c.in-Spelled in
+    let is = ap argument_of s.is ∙ spelled_is s.text s.count in
+    let of = λ (cs : List ℕ). (calls : Bool) → Adds (words_of cs) c.args.code.now c.emit_spelled.new.code (Argued calls (Spelled cs s.count)) in
+    let argued = subst (λ (cs : List ℕ). OnOk c.emit_spelled.result (of cs)) c.get.ensures c.emit_spelled.ensures in
+    subst (λ (a : Argument). OnOk c.emit_spelled.result (Adds (argument_strings a) c.args.code.now c.emit_spelled.new.code (Argued c.args.calls a))) (sym is)
+    (with_ok c.emit_spelled.result (λ each. each c.args.calls) argued)

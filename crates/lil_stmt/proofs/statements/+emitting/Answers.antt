@@ -4,7 +4,7 @@ use Rattle.std.specs.List.{flat_map}
 use Rattle.std.proofs.lemmas.Int.{to_z-of_z}
 use Rattle.lil_base.specs.Words.{word_of}
 use Rattle.lil_resolved.specs.{declared.{resolved.{RArgument.RArgument, RStmt.RStmt, RArm.RArm, RGuard.RGuard}, shapes.RField.RField}, Kinds.{base_of, compared_as, covers, outside_turns}, Resolved.{Halt, Return, For, Statements, Empty, Then, kind_of}}
-use Rattle.lil_resolved.specs.{Views.{arguments_of, named_view, kind_view, variable_kind, expression_of, place_of, statement_of, statements_of, else_of, if_is, while_is, repeat_is, loop_is, for_is, inside_is, assign_is, copy_is, text_is, change_is, member_changed_is, new_is, allocate_is, request_is, exit_is, halt_is, return_is, answer_is, call_is}, Sizes.{arguments_strings, body_strings, arms_strings}}
+use Rattle.lil_resolved.specs.{Views.{arguments_of, named_view, kind_view, variable_kind, expression_of, place_of, statement_of, statements_of, else_of, if_is, while_is, repeat_is, loop_is, for_is, inside_is, assign_is, copy_is, text_is, change_is, member_changed_is, new_is, allocate_is, request_is, exit_is, halt_is, return_is, answer_is, call_is, call_value_is}, Sizes.{arguments_strings, body_strings, arms_strings}}
 use Rattle.lil_table.specs.Rows.{access_at}
 use Rattle.lil_labels.specs.{Drafts.{Draft, Each, Adds, Emits}, Emitting.{emits_as, with_ok, adds_as}}
 use Rattle.lil_expr.specs.{Numbers.number_word, Calling.Called, Strings.{parts_next, next_part}}
@@ -158,6 +158,11 @@ emit_statement-returns-in-Call t c =
     let i = c.in-Call in
     let call = subst (λ (given : List RArgument). OnOk c.emit_call.result (Adds (arguments_strings (arguments_of given)) c.args.code.now c.emit_call.new.code (Called i.procedure i.levels (arguments_of given)))) c.as_slice-in-Call.ensures c.emit_call.ensures in
     with_ok c.emit_call.result (λ h. one_emitted c.args.around.words c.args.around.exit _ _ _ _ (ap statement_of i.is ∙ call_is _ _ _) (call_stated i.procedure i.levels c.args.around.words (arguments_of i.given) c.args.around.exit _ _ h)) call
+
+pub emit_statement-returns-in-CallValue : goal.emit_statement-returns-in-CallValue
+emit_statement-returns-in-CallValue t c =
+    stated c.emit_called_value.result c.args.around.words c.args.around.exit _ _ _ _ (ap statement_of c.in-CallValue.is ∙ call_value_is _ _)
+    (rw c.as_slice-in-CallValue.ensures at c.emit_called_value.ensures)
 
 pub emit_statement-returns-in-Answer : goal.emit_statement-returns-in-Answer
 emit_statement-returns-in-Answer t c = stated c.emit_answer.result c.args.around.words c.args.around.exit _ _ _ _ (ap statement_of c.in-Answer.is ∙ answer_is _ _) c.emit_answer.ensures
