@@ -1,7 +1,7 @@
 -- The faults of source texts: their numbers and names.
-use Rattle.std.specs.Prelude.{ℕ, None, List, [], ◌==◌, if◌then◌else◌, codes}
+use Rattle.std.specs.Prelude.{ℕ, None, Some, List, [], ◌==◌, if◌then◌else◌, codes}
 use Rattle.lil_base.specs.declared.fault.{Place.Place, SourceFault.SourceFault, FaultKind.FaultKind}
-use Rattle.lil_base.specs.declared.fault.FaultKind.TheVariants.{BadChar, OpenComment, OpenString, BadNumber, NumberTooLarge, NameTooLong, Syntax, EndName, TooNested, Unknown, Twice, NotExported, WrongKind, ExitOutside, ReturnKind, ForVariable, Operands, Assign, ArgCount, VarArgument, NotCallable, NotArray, NotRecord, NotPointer, NoField, SetBase, ResultType, ProcValue, LabelTwice, Opaque, ConstRange, NotConst, ConstArith, EmptyRange, ExprDeep, DataTooLong, TooManyProcs, TextTooLong, ReservedModule, FileName, UnitKind, NotBuilt}
+use Rattle.lil_base.specs.declared.fault.FaultKind.TheVariants.{BadChar, OpenComment, OpenString, BadNumber, NumberTooLarge, NameTooLong, Syntax, EndName, TooNested, Unknown, Twice, NotExported, WrongKind, ExitOutside, ReturnKind, ForVariable, Operands, Assign, ArgCount, VarArgument, NotCallable, NotArray, NotRecord, NotPointer, NoField, SetBase, ResultType, ProcValue, LabelTwice, Opaque, ConstRange, NotConst, ConstArith, EmptyRange, ExprDeep, DataTooLong, TooManyProcs, TextTooLong, ReservedModule, FileName, SymDamaged, BookFull, UnitKind, NotBuilt}
 
 abbrev pub fault_number : FaultKind → ℕ
 fault_number BadChar = 1
@@ -44,12 +44,18 @@ fault_number TooManyProcs = 62
 fault_number TextTooLong = 65
 fault_number ReservedModule = 76
 fault_number FileName = 77
+fault_number SymDamaged = 78
+fault_number BookFull = 79
 fault_number UnitKind = 80
 fault_number NotBuilt = 90
 
 -- the fault of a number at a place, about no name and with no values
 abbrev pub fault : ℕ → Place → SourceFault
 fault n p = record { number = n; place = p; about = None; first = 0; second = 0 }
+
+-- the fault of a number at a place, about a module or another file of the volume
+abbrev pub fault_about : ℕ → Place → List ℕ → SourceFault
+fault_about n p name = record { number = n; place = p; about = Some name; first = 0; second = 0 }
 
 -- 64 CodeTooLong, with the number of bytes
 abbrev pub code_too_long : Place → ℕ → SourceFault
@@ -99,6 +105,8 @@ fault_name n =
     else (if n == 65 then codes "TextTooLong"
     else (if n == 76 then codes "ReservedModule"
     else (if n == 77 then codes "FileName"
+    else (if n == 78 then codes "SymDamaged"
+    else (if n == 79 then codes "BookFull"
     else (if n == 80 then codes "UnitKind"
     else (if n == 90 then codes "NotBuilt"
-    else []))))))))))))))))))))))))))))))))))))))))))
+    else []))))))))))))))))))))))))))))))))))))))))))))

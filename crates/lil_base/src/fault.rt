@@ -1,5 +1,5 @@
 ghost use Rattle.std.specs.Prelude.{◌≡◌};
-ghost use Rattle.lil_base.specs.Faults.{fault, fault_number, fault_name, code_too_long};
+ghost use Rattle.lil_base.specs.Faults.{fault, fault_about, fault_number, fault_name, code_too_long};
 
 use crate::Name;
 use thiserror::Error;
@@ -11,6 +11,10 @@ pub struct Place {
     pub column: u32,
     pub offset: u32,
 }
+
+/// The number of a definition in its volume's book, from 1; 0 for programs and resident modules.
+#[derive(Clone, Copy, PartialEq, Eq)]
+pub struct Key(pub u32);
 
 /// A fault of a source text, with zeros where its number has no values.
 #[derive(Drop)]
@@ -105,6 +109,10 @@ pub enum FaultKind {
     ReservedModule = 76,
     /// The unit's name isn't that of its file.
     FileName = 77,
+    /// A symbol file that is read, or the book, isn't of its format.
+    SymDamaged = 78,
+    /// The book of the volume has no room for another definition.
+    BookFull = 79,
     /// The unit is of another kind than its file or its command asks for.
     UnitKind = 80,
     /// The text has a form that isn't built.
@@ -129,6 +137,19 @@ impl SourceFault {
             number: kind.number(),
             place,
             about: None,
+            first: 0,
+            second: 0,
+        }
+    }
+
+    /// The fault of a kind at a place, about a module or another file of the volume.
+    pub fn about(kind: FaultKind, place: Place, name: Name) -> SourceFault
+        ensures { result ≡ fault_about (fault_number kind) place name }
+    {
+        SourceFault {
+            number: kind.number(),
+            place,
+            about: Some(name),
             first: 0,
             second: 0,
         }
@@ -193,6 +214,8 @@ impl SourceFault {
             65 => b"TextTooLong",
             76 => b"ReservedModule",
             77 => b"FileName",
+            78 => b"SymDamaged",
+            79 => b"BookFull",
             80 => b"UnitKind",
             90 => b"NotBuilt",
             _ => b"",
@@ -283,4 +306,15 @@ pub enum LoadRefusal {
     DataFull(u32),
     /// A module is no program.
     NotProgram(Name),
+}
+
+/// Why bytes are no file of a format.
+#[derive(Clone, Copy, Debug, PartialEq, Eq, Error)]
+pub enum FormatStop {
+    /// No file goes on with the byte at this offset.
+    #[error("no file of the format from byte {offset} on")]
+    Fault { offset: u32 },
+    /// Want of memory.
+    #[error("memory")]
+    Memory,
 }

@@ -1,5 +1,5 @@
 ghost use Rattle.std.specs.Prelude.{◌≡◌, ◌++◌, length, OnOk, OnErr};
-ghost use Rattle.lil_base.specs.Fields.{bytes16, field16};
+ghost use Rattle.lil_base.specs.Fields.{bytes16, bytes32, field16};
 
 use crate::{Bytes, Memory};
 
@@ -21,4 +21,18 @@ pub fn put16(b: &mut Bytes, v: u16) -> Result<(), Memory>
     ensures err { OnErr result (b.new ≡ b.old) }
 {
     b.extend(&[(v / 256) as u8, (v % 256) as u8])
+}
+
+/// Appends a number of four bytes. After a refusal the list is as before.
+pub fn put32(b: &mut Bytes, v: u32) -> Result<(), Memory>
+    ensures ok { OnOk result (b.new ≡ b.old ++ bytes32 v) }
+    ensures err { OnErr result (b.new ≡ b.old) }
+{
+    let (high, low) = (v / 65_536, v % 65_536);
+    b.extend(&[
+        (high / 256) as u8,
+        (high % 256) as u8,
+        (low / 256) as u8,
+        (low % 256) as u8,
+    ])
 }

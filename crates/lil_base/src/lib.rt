@@ -16,13 +16,14 @@ mod words;
 
 pub use boxed::Boxed;
 pub use fault::{
-    ArithFault, CodePlace, FaultKind, LimitKind, LoadRefusal, Place, SourceFault, TrapAt, TrapKind,
+    ArithFault, CodePlace, FaultKind, FormatStop, Key, LimitKind, LoadRefusal, Place, SourceFault,
+    TrapAt, TrapKind,
 };
-pub use fields::{get16, put16};
+pub use fields::{get16, put16, put32};
 pub use found::beside;
 pub use items::{Items, joined, same_bytes};
 pub use memory::Memory;
-pub use name::{FileName, Name};
+pub use name::{FileKind, FileName, Name};
 pub use operator::{OneOp, TwoOp};
 pub use request::Request;
 pub use sets::{set_either, set_has, set_meet, set_minus, set_span, set_union, set_within};

@@ -1,6 +1,6 @@
-ghost use Rattle.std.specs.Prelude.{◌≡◌, [], ◌∷◌, ◌++◌, ◌≤◌, length, true, false, IsTrue, IfOk, MatchOption, codes};
+ghost use Rattle.std.specs.Prelude.{◌≡◌, [], ◌∷◌, ◌++◌, ◌≤◌, length, true, false, IsTrue, IfOk, MatchOption};
 ghost use Rattle.std.specs.List.{list_all};
-ghost use Rattle.lil_base.specs.Names.{is_letter, is_digit, is_name_byte, is_file_byte, is_name, is_file_name};
+ghost use Rattle.lil_base.specs.Names.{is_letter, is_digit, is_name_byte, is_file_byte, is_name, is_file_name, ending, file_of, book_file};
 
 use crate::{Memory, Text};
 use std::alloc::Global;
@@ -38,6 +38,30 @@ impl Model for FileName {
     ghost view = { λ n. n.text };
 
     ghost invariant = { λ n. is_file_name n.text ≡ true };
+}
+
+/// The files of a module, by the endings of their names.
+#[derive(Clone, Copy, PartialEq, Eq)]
+pub enum FileKind {
+    /// The source of its definition.
+    Definition,
+    /// The source of its implementation, or of a program.
+    Module,
+    /// The symbol file of its definition.
+    Symbols,
+}
+
+impl FileKind {
+    /// What follows the module's name, the full stop included.
+    pub fn ending(self) -> &'static [u8]
+        ensures { result.now ≡ ending self }
+    {
+        match self {
+            FileKind::Definition => b".DEF",
+            FileKind::Module => b".MOD",
+            FileKind::Symbols => b".SYM",
+        }
+    }
 }
 
 fn letter(c: u8) -> bool
@@ -137,17 +161,25 @@ impl Name {
         Ok(Name { text })
     }
 
-    /// The file of its implementation or program.
-    pub fn mod_file(&self, alloc: Global) -> Result<FileName, Memory>
-        ensures { IfOk result (λ f. f ≡ self.now ++ codes ".MOD") }
+    /// A file of the module of this name.
+    pub fn file(&self, alloc: Global, kind: FileKind) -> Result<FileName, Memory>
+        ensures { IfOk result (λ f. f ≡ file_of self.now kind) }
     {
         let mut text = Text::from_slice(alloc, self.text.as_slice())?;
-        text.extend(b".MOD")?;
+        text.extend(kind.ending())?;
         Ok(FileName { text })
     }
 }
 
 impl FileName {
+    /// The file of the volume's book.
+    pub fn book(alloc: Global) -> Result<FileName, Memory>
+        ensures { IfOk result (λ f. f ≡ book_file) }
+    {
+        let text = Text::from_slice(alloc, b"LILITH.BOK")?;
+        Ok(FileName { text })
+    }
+
     /// The file name with this text, or None where it is none.
     pub fn new(alloc: Global, t: &Text) -> Result<Option<FileName>, Memory>
         ensures { IfOk result (λ o. MatchOption o (is_file_name t.now ≡ false) (λ n. (n ≡ t.now) × (is_file_name t.now ≡ true))) }

@@ -8,7 +8,7 @@ use crate::page::{Page, shown};
 use crate::source::Source;
 use crate::tokens::show_tokens;
 use crate::walk::show_code;
-use lil_base::{Memory, Name, Text};
+use lil_base::{FileKind, Memory, Name, Text};
 use lil_check_unit::check_program;
 use lil_language::Unit;
 use lil_lexer::tokens;
@@ -109,7 +109,7 @@ pub(crate) fn listing<V: Volume>(
     name: &Name,
     volume: &mut V,
 ) -> Result<Option<Page>, Memory> {
-    let file = name.mod_file(alloc)?;
+    let file = name.file(alloc, FileKind::Module)?;
     let text = match volume.read(alloc, &file) {
         Ok(Some(text)) => text,
         Ok(None) | Err(VolumeError::Failed) => return Ok(None),

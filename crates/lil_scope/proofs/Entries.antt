@@ -1,9 +1,10 @@
 -- A block, and the names of its types, as an indexmap has them.
 use Rattle.std.proofs.Common.{◌≡◌, ℕ, Bool, true, false, not, ◌||◌, cond, if◌then◌else◌, List, [], ◌∷◌, ◌++◌, map, Option, Some, None, is_some, is_none, refl, ap, ◌∙◌, nat_eq}
-use Rattle.std.proofs.lemmas.List.{map-append}
+use Rattle.std.proofs.lemmas.{List.{map-append}, Bool.{and_parts, and_from}}
 use Rattle.indexmap.specs.{IndexMap.insert_entry, IndexSet.insert_key}
 use Rattle.std.specs.{Cmp.Lexicographic.pointwise, List.list_any, Map.lookup, declared.{vec.Vec.Vec, alloc.Global.Global}}
-use Rattle.lil_scope.specs.{declared.thing.Entry.Entry, Names.{entry_in, place_of, place_in, same, is_new, bound, is_among, and_name}}
+use Rattle.lil_scope.specs.{declared.thing.Entry.Entry, Names.{entry_in, place_of, place_in, same, is_new, bound, is_among, and_name, are_names}}
+use Rattle.lil_base.specs.Names.{is_name}
 
 pub look_map : (n : List ℕ) (es : List (Vec ℕ Global × Entry)) → lookup (λ k. pointwise nat_eq n k.items) es ≡ entry_in (map (λ p. (p.0.items, p.1)) es) n
 look_map n [] = refl
@@ -58,3 +59,22 @@ add_map k ks = by (list_any (λ b. pointwise nat_eq k.items b.items) ks) (among_
     by : (c : Bool) → c ≡ is_among names k.items → map bytes (if c then ks else ks ++ k ∷ []) ≡ and_name names k.items
     by true is = ap (λ c. if c then names else names ++ k.items ∷ []) is
     by false is = map-append bytes ks (k ∷ []) ∙ ap (λ c. if c then names else names ++ k.items ∷ []) is
+
+-- ---- names of a block
+pub names_more : (b : List (List ℕ × Entry)) (n : List ℕ) (e : Entry) → are_names b ≡ true → is_name n ≡ true → are_names (bound b n e) ≡ true
+unfolding is_new
+names_more b n e h k = by (is_none (entry_in b n))
+  where
+    behind : (b : List (List ℕ × Entry)) → are_names b ≡ true → are_names (b ++ (n, e) ∷ []) ≡ true
+    behind [] g = and_from (is_name n) true k refl
+    behind (x ∷ xs) g = let p = and_parts (is_name x.0) (are_names xs) g in and_from (is_name x.0) (are_names (xs ++ (n, e) ∷ [])) p.0 (behind xs p.1)
+
+    by : (c : Bool) → are_names (if c then b ++ (n, e) ∷ [] else b) ≡ true
+    by true = behind b h
+    by false = h
+
+-- a new name put into an index
+pub names_kept : (k : Vec ℕ Global) (t : Entry) (es : List (Vec ℕ Global × Entry)) → entry_in (map see es) k.items ≡ None → is_name k.items ≡ true
+    → are_names (map see es) ≡ true → are_names (map see (insert_entry (λ a b. pointwise nat_eq a.items b.items) es k t)) ≡ true
+names_kept k t es new name all =
+    ap are_names (insert_map k t es new ∙ bound_new (map see es) k.items t new) ∙ names_more (map see es) k.items t all name

@@ -1,12 +1,13 @@
 -- What names stand for in a list of blocks. A block is a list of names, in the order of declaration, each with what it stands for
 -- and the place where it is bound.
 use Rattle.std.specs.Prelude.{ℕ, ◌+◌, ◌-◌, is_none, slice_get, slice_set, nat_lt, length, Bool, not, List, [], ◌∷◌, ◌++◌, Option, Some, None, if◌then◌else◌, nat_eq, ◌==◌, ◌&&◌}
-use Rattle.std.specs.{Cmp.Lexicographic.pointwise, List.list_any}
+use Rattle.std.specs.{Cmp.Lexicographic.pointwise, List.{list_all, list_any}, declared.{vec.Vec.Vec, alloc.Global.Global}}
+use Rattle.lil_base.specs.Names.{is_name}
 use Rattle.lil_base.specs.declared.fault.{Place.Place, FaultKind.TheVariants.Twice}
 use Rattle.lil_text.specs.declared.tree.Ident.{Ident}
 use Rattle.lil_report.specs.Told.{Row, row}
 use Rattle.lil_declared.specs.declared.declared.{RProc.RProc, RVar.RVar}
-use Rattle.lil_scope.specs.declared.{thing.{Entry.Entry, Thing.Thing}, entering.Around.Around, env.{Env.Env, Wait.Wait}, scope.Scopes.Scopes}
+use Rattle.lil_scope.specs.declared.{thing.{Bound.Bound, Entry.Entry, Thing.Thing}, entering.Around.Around, env.{Env.Env, Wait.Wait}, scope.Scopes.Scopes}
 
 abbrev pub same : List ℕ → List ℕ → Bool
 same a b = pointwise nat_eq a b
@@ -18,6 +19,17 @@ Names = List (List ℕ × Entry)
 abbrev pub entry_in : List (List ℕ × Entry) → List ℕ → Option Entry
 entry_in [] n = None
 entry_in (e ∷ es) n = if same n e.0 then Some e.1 else entry_in es n
+
+-- a block's names are names
+abbrev pub are_names : List (List ℕ × Entry) → Bool
+are_names b = list_all (λ e. is_name e.0) b
+
+-- what a block holds, as an index of names has it
+abbrev pub seen : Vec ℕ Global × Entry → List ℕ × Entry
+seen p = (p.0.items, p.1)
+
+abbrev pub bound_of : List ℕ × Entry → Bound
+bound_of e = record { name = e.0; entry = e.1 }
 
 abbrev pub thing_of : Option Entry → Option Thing
 thing_of None = None

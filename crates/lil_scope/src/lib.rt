@@ -18,5 +18,5 @@ pub use entering::{
 pub use env::{Env, Wait, Waits, Withs};
 pub use locals::Locals;
 pub use names::{bind, bind_at, find_in, is_later, waits_for};
-pub use scope::{Block, Blocks, Scopes};
-pub use thing::{Chars, Entry, Kind, Routine, Thing, Variable};
+pub use scope::{Blocks, Scopes};
+pub use thing::{Bound, Chars, Entry, Kind, Routine, Thing, Variable};

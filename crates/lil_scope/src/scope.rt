@@ -1,7 +1,7 @@
-ghost use Rattle.std.specs.Prelude.{◌≡◌, ◌<◌, ◌++◌, ◌∷◌, [], length, if◌then◌else◌, IfOk, MatchOption};
+ghost use Rattle.std.specs.Prelude.{◌≡◌, ◌<◌, ◌++◌, ◌∷◌, [], length, map, true, if◌then◌else◌, IfOk, MatchOption};
 ghost use Rattle.lil_scope.specs.Names as spec;
 
-use crate::thing::{Entry, Thing};
+use crate::thing::{Bound, Entry, Thing};
 use indexmap::IndexMap;
 use lil_base::{Items, Memory, Name, Place};
 use std::alloc::Global;
@@ -14,12 +14,29 @@ pub struct Block {
 }
 
 impl Model for Block {
-    ghost use Rattle.std.specs.Prelude.{List, ℕ, map};
+    ghost use Rattle.std.specs.Prelude.{◌≡◌, List, ℕ, map, true};
     ghost use Rattle.lil_scope.specs.declared.thing.Entry.{Entry};
+    ghost use Rattle.lil_scope.specs.Names.{are_names};
 
     ghost Value = { List (List ℕ × Entry) };
 
     ghost view = { λ b. map (λ p. (p.0.items, p.1)) b.names.entries };
+
+    ghost invariant = { λ b. are_names (map (λ p. (p.0.items, p.1)) b.names.entries) ≡ true };
+}
+
+fn all_of(alloc: Global, names: &IndexMap<Vec<u8>, Entry>) -> Result<Items<Bound>, Memory>
+    requires { spec.are_names (map spec.seen names.now.entries) ≡ true }
+    ensures { IfOk result (λ bs. bs ≡ map spec.bound_of (map spec.seen names.now.entries)) }
+{
+    let mut bounds = Items::new(alloc);
+    for (key, entry) in names.iter() {
+        if let Some(name) = Name::of_slice(alloc, key.as_slice())? {
+            let entry = *entry;
+            bounds.push(Bound { name, entry })?;
+        }
+    }
+    Ok(bounds)
 }
 
 impl Block {
@@ -36,6 +53,13 @@ impl Block {
         Block {
             names: IndexMap::new(alloc),
         }
+    }
+
+    /// Its names in their order, and what they stand for.
+    fn all(&self, alloc: Global) -> Result<Items<Bound>, Memory>
+        ensures { IfOk result (λ bs. bs ≡ map spec.bound_of self.now) }
+    {
+        all_of(alloc, &self.names)
     }
 
     /// Binds a name, unless it stands here before: then it answers where.
@@ -91,6 +115,16 @@ impl Blocks {
         let number = self.list.len();
         self.list.push(Block::new(alloc))?;
         Ok(number)
+    }
+
+    /// The names of a block in the order of declaration, and what they stand for.
+    pub fn all(&self, alloc: Global, number: usize) -> Result<Items<Bound>, Memory>
+        ensures { IfOk result (λ bs. bs ≡ map spec.bound_of (spec.block_at self.now number)) }
+    {
+        match self.list.get(number) {
+            Some(block) => block.all(alloc),
+            None => Ok(Items::new(alloc)),
+        }
     }
 
     pub fn find(&self, number: usize, name: &Name) -> Option<Thing>

@@ -1,4 +1,4 @@
-use lil_base::Place;
+use lil_base::{Name, Place};
 use lil_declared::{Mode, Resident, Standard};
 use lil_types::TypeId;
 
@@ -66,4 +66,11 @@ pub enum Thing {
 pub struct Entry {
     pub thing: Thing,
     pub place: Place,
+}
+
+/// A name of a block, and its entry there.
+#[derive(Drop)]
+pub struct Bound {
+    pub name: Name,
+    pub entry: Entry,
 }

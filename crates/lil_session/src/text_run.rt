@@ -6,7 +6,7 @@ use crate::report::write_report;
 use crate::run::run_program;
 use crate::words::named;
 use crate::{Channel, Options, Rack, Status};
-use lil_base::{Name, Place, SourceFault, Text};
+use lil_base::{FileKind, Name, Place, SourceFault, Text};
 use lil_check_unit::check_program;
 use lil_language::Unit;
 use lil_read_unit::read;
@@ -90,7 +90,7 @@ fn run_source<V: Volume, K: Keyboard, S: Sink>(
     ensures { let at = devices V.files V.faults K.left K.faults S.written S.faults in
         CommandRan (Some name.now) steps (at volume.old keys.old screen.old) (at volume.new keys.new screen.new) result }
 {
-    let Ok(file) = name.mod_file(alloc) else {
+    let Ok(file) = name.file(alloc, FileKind::Module) else {
         return Status::Memory;
     };
     match volume.read(alloc, &file) {

@@ -1,4 +1,4 @@
-use lil_base::{FileName, Memory, Name, Text, same_bytes};
+use lil_base::{FileKind, FileName, Memory, Name, Text, same_bytes};
 use std::alloc::Global;
 use std::test::Fail;
 
@@ -30,7 +30,7 @@ fn names(rt: HostRuntime) -> Result<(), Fail> {
 /// A copy of the name of the file that has a copy of this name.
 fn file_of(alloc: Global, name: &Name) -> Result<FileName, Memory> {
     let name = name.copy(alloc)?;
-    let file = name.mod_file(alloc)?;
+    let file = name.file(alloc, FileKind::Module)?;
     file.copy(alloc)
 }
 

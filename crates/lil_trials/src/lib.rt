@@ -8,6 +8,8 @@ mod asm;
 #[cfg(test)]
 mod base;
 #[cfg(test)]
+mod book;
+#[cfg(test)]
 mod commands;
 #[cfg(test)]
 mod kernel;

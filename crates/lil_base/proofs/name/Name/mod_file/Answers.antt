@@ -1,6 +1,0 @@
-use Rattle.std.proofs.Common.{rules}
-use Rattle.lil_base.proofs.Files.{mod_is_file}
-use Rattle.lil_base.proofs.name.Name.mod_file.Goals as goal
-
-pub invariant_of-result : goal.invariant_of-result
-invariant_of-result c = let t = mod_is_file c.self.inside.text c.self.invariant in search rules

@@ -1,0 +1,14 @@
+use Rattle.lil_format.specs.Turns.{many_on}
+use Rattle.lil_symfile.specs.declared.tree.SymName.{SymName}
+use Rattle.lil_symfile.proofs.NameLaws.{names_more}
+use Rattle.lil_symfile.proofs.names.names.Goals as goal
+
+pub loop-turn-preserved : goal.loop-turn-preserved
+loop-turn-preserved c =
+    let all = c.loop-turn.all in
+    let next = c.in_ok-next.next in
+    let read = rw c.loop-turn.invariant.seen at c.in_ok-next.ensures.read in
+    record {
+      read = rw c.in_ok-push.ensures.ok (many_on _ all c.loop-turn.source c.loop-turn.invariant.read c.loop-turn-test.true next _ read);
+      seen = rw c.in_ok-push.ensures.ok (names_more (λ (x : SymName). x.name) all next _ _ c.in_ok-next.ensures.seen c.loop-turn.invariant.seen);
+    }

@@ -1,0 +1,8 @@
+use Rattle.std.proofs.Common.{◌≡◌, ◌-◌}
+use Rattle.lil_format.specs.Reading.{many}
+use Rattle.lil_format.specs.Format.{reads}
+use Rattle.lil_symfile.specs.Symbol as spec
+use Rattle.lil_symfile.proofs.types.parameters.Given as goal
+
+abbrev pub invariant-loop-turn : goal.invariant-loop-turn
+invariant-loop-turn l = reads (spec.parameters l.kinds) l.fn.source ≡ many (λ done. reads (spec.parameter l.kinds)) (l.count - l._turn) l.all l.source
