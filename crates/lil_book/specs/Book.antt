@@ -26,6 +26,9 @@ entries = list_of u2 any entry
 unfoldable pub book : Format Book
 book = codes "LBOK" ▸ (1 ∷ []) ▸ shape (λ es. record { entries = es }) (λ b. b.entries) (λ es. refl) entries
 
+abbrev pub no_entries : Book
+no_entries = record { entries = [] }
+
 -- entries have the numbers from 1 on
 abbrev pub entry_with : List Entry → ℕ → Option Entry
 entry_with es zero = None

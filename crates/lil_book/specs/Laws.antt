@@ -1,4 +1,4 @@
--- A book with one entry more.
+-- The book without entries, and a book with one entry more.
 use Rattle.std.proofs.Common.{◌≡◌, ℕ, zero, suc, ◌<◌, ◌≤◌, true, List, [], ◌∷◌, ◌++◌, length, Some, refl, arith}
 use Rattle.std.specs.List.{AllByRecursion}
 use Rattle.lil_base.specs.Names.{is_name}
@@ -8,7 +8,12 @@ use Rattle.lil_format.specs.Turns.{list_fits_from, list_fits_more}
 use Rattle.lil_format.specs.Names.{wanted, name_fits}
 use Rattle.lil_book.specs.declared.book.Entry.{Entry}
 use Rattle.lil_book.specs.declared.book.Book.{Book}
-use Rattle.lil_book.specs.Book.{source_text, rests, entry, entries, book, entry_with}
+use Rattle.lil_book.specs.Book.{source_text, rests, entry, entries, book, no_entries, entry_with}
+
+-- the book without entries has a spelling
+pub no_entries_fits : Fits book no_entries
+unfolding book entries Fits
+no_entries_fits = (refl, list_fits_from u2 any entry [] refl (omega arith) tt)
 
 abbrev pub with_entry : Book → Entry → Book
 with_entry b e = record { entries = b.entries ++ e ∷ [] }

@@ -5,6 +5,7 @@ ghost use Rattle.lil_book.specs.Book as spec;
 
 use lil_base::{Items, Key, Memory, Name, Text};
 use lil_format::Wanted;
+use std::alloc::Global;
 use thiserror::Error;
 
 /// A definition that was compiled: its module, its text, and the modules on which it rests.
@@ -41,6 +42,15 @@ impl From<Memory> for BookStop {
 }
 
 impl Book {
+    /// The book without entries. It takes no memory yet.
+    pub fn new(alloc: Global) -> Book
+        ensures { result ≡ spec.no_entries }
+    {
+        Book {
+            entries: Items::new(alloc),
+        }
+    }
+
     /// The entry with this key; none for 0 and above the number of entries.
     pub fn entry(&self, key: Key) -> Option<&Entry>
         ensures { option_copied result ≡ spec.entry_with self.now.entries key.0 }

@@ -6,6 +6,7 @@ use Rattle.std.proofs.lemmas.{Bool.Decides.nat_tests, Option.{none-some, same_So
 use Rattle.lil_types.specs.{Types.Table, declared.table.{TypeEntry.TypeEntry, TypeForm.{TypeForm, TheVariants.Enumeration}}}
 use Rattle.lil_report.specs.{declared.report.Fault.Fault, Least.{is_late, now_of, late_of, worse, Reports}, LeastLaws.reports_tell, Told.{Row, Stands, tell, after, walk}}
 use Rattle.lil_language.specs.declared.{unit.{Unit.Unit as Tree, Decl.Decl}, tree.Stmt.Stmt}
+use Rattle.lil_language.specs.declared.unit.UnitKind.TheVariants as kind
 use Rattle.lil_resolved.specs.{Kinds.{Shape, Outline, Scope, all_words, outermost, procedure_by}, Resolved.{Procedure, Resolved, outline_of}, Sound.{IsSound, IsSoundBody}, Views.statements_of, declared.resolved.RStmt.RStmt}
 use Rattle.lil_declared.specs.declared.declared.{RProc.RProc, RVar.RVar}
 use Rattle.lil_shapes.specs.{ListLaws.AllFine, Pointers.targets, Shaping.variables_by, Signatures.signatures}
@@ -286,4 +287,4 @@ module _ (u : Tree) where
 
 pub program_there : (file : List ℕ) (u : Tree) → program_fault file u ≡ None → units.IsThere (module_of u residents)
 unfolding program_fault imports_fault
-program_there file u h = unit_there u refl (none_behind (tell None (missing_rows residents u.head.imports)) _ (none_behind (tell None (naming_rows file u)) _ h))
+program_there file u h = unit_there u refl (none_behind (tell None (missing_rows residents u.head.imports)) _ (none_behind (tell None (naming_rows kind.Program file u)) _ h))

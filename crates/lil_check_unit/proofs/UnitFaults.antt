@@ -3,6 +3,7 @@ use Rattle.std.proofs.Common.{◌≡◌, ℕ, ◌+◌, ◌<◌, ◌≤◌, List,
 use Rattle.std.proofs.lemmas.List.{at_drop_more, at_drop_all}
 use Rattle.lil_text.specs.declared.tree.Ident.{Ident}
 use Rattle.lil_language.specs.declared.unit.{Import.Import, Unit.Unit as Tree}
+use Rattle.lil_language.specs.declared.unit.UnitKind.TheVariants as kind
 use Rattle.lil_report.specs.{declared.report.Fault.Fault, Least.{now_of, late_of, when, worse, Reports}, LeastLaws.reports_tell, Told.{Said, Stands, tell}, Laws.{said_after, tell_append}}
 use Rattle.lil_resolved.specs.Resolved.{Resolved}
 use Rattle.lil_scope.specs.declared.env.Env.{Env}
@@ -96,11 +97,11 @@ module _ (u : Tree) {is : List Interface} (same : is ≡ residents) where
   then_unit h = ap (λ o. first_of o (unit_fault u residents)) (ap (λ is. tell None (missing_rows is u.head.imports)) (sym same) ∙ h) ∙ ap (unit_fault u) (sym same)
 
 module _ (file : List ℕ) (u : Tree) where
-  pub wrong_name : {f : Fault} → tell None (naming_rows file u) ≡ Some f → program_fault file u ≡ Some f
+  pub wrong_name : {f : Fault} → tell None (naming_rows kind.Program file u) ≡ Some f → program_fault file u ≡ Some f
   unfolding program_fault
   wrong_name h = ap (λ o. first_of o (imports_fault u)) h
 
-  pub then_imports : tell None (naming_rows file u) ≡ None → program_fault file u ≡ imports_fault u
+  pub then_imports : tell None (naming_rows kind.Program file u) ≡ None → program_fault file u ≡ imports_fault u
   unfolding program_fault
   then_imports h = ap (λ o. first_of o (imports_fault u)) h
 

@@ -2,8 +2,9 @@
 use Rattle.std.proofs.Common.{◌≡◌, ℕ, List, [], ◌∷◌, ◌++◌, Option, Some, None, refl, ap, sym, subst, inl, inr}
 use Rattle.lil_report.specs.{declared.report.Fault.Fault, Least.{now_of, Reports}, Told.{Stands, tell}, LeastLaws.{reports_tell, reports_now, reports_late, reports_worse}}
 use Rattle.lil_interfaces.specs.{declared.surface.Interface.Interface, Interfaces.residents}
-use Rattle.lil_check_unit.specs.Units.{first_of, Speaks, declared, stated, worst, data_fault, unit_fault, imports_fault, program_fault, late_fault, naming_rows, missing_rows, long_rows, names_fault, data_rows, Now, Late, LateInUnit, ClassesOfUnit, ClassesOfProgram}
+use Rattle.lil_check_unit.specs.Units.{first_of, Speaks, declared, stated, worst, data_fault, unit_fault, imports_fault, program_fault, late_fault, naming_rows, missing_rows, long_rows, names_worst, data_rows, Now, Late, LateInUnit, ClassesOfNames, ClassesOfUnit, ClassesOfProgram}
 use Rattle.lil_language.specs.declared.unit.Unit.{Unit as Tree}
+use Rattle.lil_language.specs.declared.unit.UnitKind.TheVariants as kind
 
 pub speaks_first : (C : Fault → Type 0) (Cs : List (Fault → Type 0)) (a b : Option Fault) → Reports C a → Speaks Cs b → Speaks (C ∷ Cs) (first_of a b)
 speaks_first C Cs None b h k = inr (h, k)
@@ -30,18 +31,15 @@ none_behind (Some f) b h = absurd (cc)
 
 module _ (u : Tree) (is : List Interface) where
   -- names and declarations, and statements
-  abbrev Names : List (Fault → Type 0)
-  Names = Now (declared is u).1 ∷ Stands (long_rows u (declared is u).0) ∷ []
-
   abbrev NamesAndBodies : List (Fault → Type 0)
-  NamesAndBodies = Names ++ Now (stated is u).1 ∷ []
+  NamesAndBodies = ClassesOfNames u is ++ Now (stated is u).1 ∷ []
 
-  names_speak : Speaks Names (names_fault u (declared is u).0 (tell None (declared is u).1))
+  pub names_speak : Speaks (ClassesOfNames u is) (names_worst u is)
   names_speak = speaks_first _ (Stands (long_rows u (declared is u).0) ∷ []) _ _ (reports_now _ _ (reports_tell (declared is u).1)) (speaks_last _ _ (reports_tell (long_rows u (declared is u).0)))
 
   worst_speaks : Speaks NamesAndBodies (worst u is)
   unfolding worst
-  worst_speaks = speaks_behind Names (Now (stated is u).1 ∷ []) _ _ names_speak (λ h. speaks_last _ _ (reports_now _ _ (reports_tell (stated is u).1)))
+  worst_speaks = speaks_behind (ClassesOfNames u is) (Now (stated is u).1 ∷ []) _ _ names_speak (λ h. speaks_last _ _ (reports_now _ _ (reports_tell (stated is u).1)))
 
   pub no_declared : worst u is ≡ None → now_of (tell None (declared is u).1) ≡ None
   unfolding worst
@@ -49,7 +47,7 @@ module _ (u : Tree) (is : List Interface) where
 
   pub no_stated : worst u is ≡ None → now_of (tell None (stated is u).1) ≡ None
   unfolding worst
-  no_stated h = none_behind (names_fault u (declared is u).0 (tell None (declared is u).1)) _ h
+  no_stated h = none_behind (names_worst u is) _ h
 
   late_speaks : worst u is ≡ None → Reports (LateInUnit u is) (late_fault u is)
   unfolding late_fault
@@ -70,5 +68,5 @@ module _ (u : Tree) (is : List Interface) where
 pub program_speaks : (file : List ℕ) (u : Tree) → Speaks (ClassesOfProgram file u) (program_fault file u)
 unfolding program_fault imports_fault
 program_speaks file u =
-    speaks_first (Stands (naming_rows file u)) (Stands (missing_rows residents u.head.imports) ∷ ClassesOfUnit u residents) _ (imports_fault u) (reports_tell (naming_rows file u))
+    speaks_first (Stands (naming_rows kind.Program file u)) (Stands (missing_rows residents u.head.imports) ∷ ClassesOfUnit u residents) _ (imports_fault u) (reports_tell (naming_rows kind.Program file u))
     (speaks_first (Stands (missing_rows residents u.head.imports)) (ClassesOfUnit u residents) _ (unit_fault u residents) (reports_tell (missing_rows residents u.head.imports)) (unit_speaks u residents))

@@ -8,11 +8,11 @@ use Rattle.lil_language.specs.declared.unit.{Import.Import, Unit.Unit as Tree, U
 use Rattle.lil_types.specs.declared.table.TypeForm.{TypeForm, TheVariants.Enumeration}
 use Rattle.lil_report.specs.{declared.report.Fault.Fault, Least.{number, is_late, now_of, late_of, worse, IsLeast}, Told.{Row, row, Stands, after, tell}}
 use Rattle.lil_resolved.specs.Resolved.{Resolved}
-use Rattle.lil_scope.specs.{declared.env.Env.Env, Names.same}
+use Rattle.lil_scope.specs.{declared.env.Env.Env, Names.{block_at, same}}
 use Rattle.lil_layout.specs.Data.{data_words}
 use Rattle.lil_check_decl.specs.Decls.{decls_mean}
 use Rattle.lil_check_stmt.specs.{Stmts.bodies_mean, declared.stmt.Stated.Stated}
-use Rattle.lil_interfaces.specs.{declared.surface.Interface.Interface, Interfaces.{named, residents}, Imports.{nothing_imported, imports_mean, exports_mean}}
+use Rattle.lil_interfaces.specs.{declared.{surface.Interface.Interface, importing.Imported.Imported}, Interfaces.{named, residents}, Imports.{nothing_imported, imports_mean, exports_mean}}
 use Rattle.lil_check_unit.specs.Modules.{in_no_with, assembled}
 
 -- ---- classes: the first one that has a fault speaks
@@ -41,15 +41,17 @@ is_reserved n =
     || (same n (codes "Channels")
     || same n (codes "SYSTEM"))))))
 
-abbrev pub is_program : Sort → Bool
-is_program kind.Program = true
-is_program kind.Definition = false
-is_program kind.Implementation = false
+abbrev pub same_kind : Sort → Sort → Bool
+same_kind kind.Definition kind.Definition = true
+same_kind kind.Implementation kind.Implementation = true
+same_kind kind.Program kind.Program = true
+same_kind _ _ = false
 
--- 80 UnitKind: the unit is no program. 76 ReservedModule: it has a resident module's name. 77 FileName: it hasn't its file's name
-abbrev pub naming_rows : List ℕ → Tree → List Row
-naming_rows file u =
-    row (not (is_program u.head.kind)) u.head.place UnitKind
+-- 80 UnitKind: the unit isn't of the kind that is wanted. 76 ReservedModule: it has a resident module's name. 77 FileName: it
+-- hasn't its file's name
+abbrev pub naming_rows : Sort → List ℕ → Tree → List Row
+naming_rows wanted file u =
+    row (not (same_kind wanted u.head.kind)) u.head.place UnitKind
     ∷ row (is_reserved u.head.name.name) u.head.name.place ReservedModule
     ∷ row (not (same u.head.name.name file)) u.head.name.place FileName
     ∷ []
@@ -79,6 +81,13 @@ HasInterfaces is u = (f : Fault) → Stands (missing_rows is u.head.imports) f �
 unfoldable pub declared : List Interface → Tree → Env × List Row
 declared is u = after (imports_mean is nothing_imported u.head.imports) (λ s. after (decls_mean s.env u.decls) (λ e. exports_mean s.taken e u.head.exports))
 
+-- what the imports alone bind, and how many names of the unit's block they are
+abbrev pub brought : List Interface → Tree → Imported
+brought is u = (imports_mean is nothing_imported u.head.imports).0
+
+abbrev pub imported_names : List Interface → Tree → ℕ
+imported_names is u = length (block_at (brought is u).env.scopes.blocks (brought is u).env.scopes.inner)
+
 abbrev pub stated : List Interface → Tree → Stated × List Row
 stated is u = bodies_mean (in_no_with (declared is u).0) u.decls u.body
 
@@ -97,9 +106,15 @@ long_rows u e = row (list_any (λ x. is_long x.form) e.types) u.head.name.place 
 abbrev pub names_fault : Tree → Env → Option Fault → Option Fault
 names_fault u e o = first_of (now_of o) (tell None (long_rows u e))
 
+abbrev pub names_worst : Tree → List Interface → Option Fault
+names_worst u is = names_fault u (declared is u).0 (tell None (declared is u).1)
+
+abbrev pub ClassesOfNames : Tree → List Interface → List (Fault → Type 0)
+ClassesOfNames u is = Now (declared is u).1 ∷ Stands (long_rows u (declared is u).0) ∷ []
+
 -- the fault of a unit, of classes 6 and 7
 unfoldable pub worst : Tree → List Interface → Option Fault
-worst u is = first_of (names_fault u (declared is u).0 (tell None (declared is u).1)) (now_of (tell None (stated is u).1))
+worst u is = first_of (names_worst u is) (now_of (tell None (stated is u).1))
 
 -- ---- class 8. 61 DataTooLong: the data of the unit's module have more than 32,000 words
 abbrev pub data_rows : Tree → Env → Stated → List Row
@@ -148,7 +163,7 @@ imports_fault u = first_of (tell None (missing_rows residents u.head.imports)) (
 
 -- the fault of a program in a file of this name, of classes 4 to 9
 unfoldable pub program_fault : List ℕ → Tree → Option Fault
-program_fault file u = first_of (tell None (naming_rows file u)) (imports_fault u)
+program_fault file u = first_of (tell None (naming_rows kind.Program file u)) (imports_fault u)
 
 abbrev pub ClassesOfProgram : List ℕ → Tree → List (Fault → Type 0)
-ClassesOfProgram file u = Stands (naming_rows file u) ∷ Stands (missing_rows residents u.head.imports) ∷ ClassesOfUnit u residents
+ClassesOfProgram file u = Stands (naming_rows kind.Program file u) ∷ Stands (missing_rows residents u.head.imports) ∷ ClassesOfUnit u residents

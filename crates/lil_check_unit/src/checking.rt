@@ -1,8 +1,9 @@
-ghost use Rattle.std.specs.Prelude.{◌≡◌, IfOk, Err, None, Some};
+ghost use Rattle.std.specs.Prelude.{◌≡◌, length, IfOk, Err, None, Some};
 ghost use Rattle.std.specs.List.{list_any};
 ghost use Rattle.lil_base.specs.declared.fault.SourceFault.{SourceFault as Told};
 ghost use Rattle.lil_text.specs.declared.stop.ReadStop.TheVariants as stop;
 ghost use Rattle.lil_report.specs.{declared.report.Fault.Fault as Found, Least.{now_of, late_of, worse}, Told.{Said, tell}};
+ghost use Rattle.lil_scope.specs.Names.{block_at};
 ghost use Rattle.lil_check_stmt.specs.Stmts.{bodies_mean};
 ghost use Rattle.lil_interfaces.specs.Imports.{nothing_imported};
 ghost use Rattle.lil_check_unit.specs.Modules.{in_no_with};
@@ -11,19 +12,19 @@ ghost use Rattle.lil_check_unit.specs.Units as spec;
 use lil_base::{FaultKind, Items, Memory, SourceFault, beside};
 use lil_check_decl::declarations;
 use lil_check_stmt::{Stated, bodies};
-use lil_interfaces::{Imported, Interfaces, exports, imports, start};
+use lil_interfaces::{Entered, Imported, Interfaces, exports, imports, start};
 use lil_language::Unit;
 use lil_report::{Fault, Report, worse};
-use lil_scope::{Env, Withs};
+use lil_scope::{Blocks, Env, Withs};
 use lil_text::ReadStop;
 use lil_types::{TypeEntry, TypeForm};
 use std::alloc::Global;
 
-/// The fault as it is told.
-pub(crate) fn told(fault: Fault) -> ReadStop
-    ensures { result ≡ stop.Fault (spec.told fault) }
+/// The fault as it is told: its number and place, with no values.
+pub fn told(fault: Fault) -> SourceFault
+    ensures { result ≡ spec.told fault }
 {
-    ReadStop::Fault(SourceFault::at(fault.kind, fault.place))
+    SourceFault::at(fault.kind, fault.place)
 }
 
 /// Nothing is imported yet.
@@ -37,36 +38,63 @@ fn nothing_imported(alloc: Global) -> Result<Imported, Memory>
     })
 }
 
-/// All that a unit imports and declares, where nothing is imported yet.
+/// What a unit declares and imports: the modules, each once, and how many names of the unit's block are imported. Those stand
+/// before the others.
+#[derive(Drop)]
+pub struct Declared {
+    pub env: Env,
+    pub modules: Items<Entered>,
+    pub imported: usize,
+}
+
+/// How many names a block has.
+fn names_in(alloc: Global, blocks: &Blocks, number: usize) -> Result<usize, Memory>
+    ensures { IfOk result (λ n. n ≡ length (block_at blocks.now number)) }
+{
+    let names = blocks.all(alloc, number)?;
+    Ok(names.len())
+}
+
+/// All that a unit imports and declares, where nothing is imported yet, and how many names of its block are imported.
 fn declare(
     alloc: Global,
     u: &Unit,
     interfaces: &Interfaces,
     so_far: &mut Imported,
     report: &mut Report,
-) -> Result<(), Memory>
+) -> Result<usize, Memory>
     requires { so_far.old ≡ nothing_imported }
-    ensures { IfOk result (λ o. Said (spec.declared interfaces.now u.now) report.old so_far.new.env report.new) }
+    ensures said { IfOk result (λ n. Said (spec.declared interfaces.now u.now) report.old so_far.new.env report.new) }
+    ensures modules { IfOk result (λ n. so_far.new.modules ≡ (spec.brought interfaces.now u.now).modules) }
+    ensures imported { IfOk result (λ n. n ≡ spec.imported_names interfaces.now u.now) }
 {
     imports(alloc, interfaces, so_far, report, u.head.imports.as_slice())?;
+    let scopes = &so_far.env.scopes;
+    let imported = names_in(alloc, &scopes.blocks, scopes.inner)?;
     declarations(alloc, &mut so_far.env, report, &u.decls)?;
     exports(&so_far.taken, &so_far.env, report, &u.head.exports);
-    Ok(())
+    Ok(imported)
 }
 
 /// All that a unit imports and declares.
-fn declared(
+fn declare_all(
     alloc: Global,
     u: &Unit,
     interfaces: &Interfaces,
     report: &mut Report,
-) -> Result<Env, Memory>
-    ensures { IfOk result (λ e. Said (spec.declared interfaces.now u.now) report.old e report.new) }
+) -> Result<Declared, Memory>
+    ensures said { IfOk result (λ d. Said (spec.declared interfaces.now u.now) report.old d.env report.new) }
+    ensures modules { IfOk result (λ d. d.modules ≡ (spec.brought interfaces.now u.now).modules) }
+    ensures imported { IfOk result (λ d. d.imported ≡ spec.imported_names interfaces.now u.now) }
 {
     let mut so_far = nothing_imported(alloc)?;
     let outcome = declare(alloc, u, interfaces, &mut so_far, report);
-    let (so_far, _) = beside(so_far, outcome)?;
-    Ok(so_far.env)
+    let (so_far, imported) = beside(so_far, outcome)?;
+    Ok(Declared {
+        env: so_far.env,
+        modules: so_far.modules,
+        imported,
+    })
 }
 
 fn is_long(form: &TypeForm) -> bool
@@ -135,7 +163,7 @@ fn with_statements(
         Some(fault) => {
             drop(declared);
             drop(stated);
-            Err(told(fault))
+            Err(ReadStop::Fault(told(fault)))
         }
         None => {
             let late = worse(late, report.worst_late());
@@ -161,12 +189,34 @@ pub(crate) fn check_parts(
     ensures wrong { (f : Told) → result ≡ Err (stop.Fault f) → (g : Found) × (spec.worst u.now interfaces.now ≡ Some g) × (f ≡ spec.told g) }
 {
     let mut report = Report::new();
-    let env = declared(alloc, u, interfaces, &mut report)?;
-    match names_fault(u, &env, &report) {
+    let parts = declare_all(alloc, u, interfaces, &mut report)?;
+    match names_fault(u, &parts.env, &report) {
         Some(fault) => {
-            drop(env);
-            Err(told(fault))
+            drop(parts);
+            Err(ReadStop::Fault(told(fault)))
         }
-        None => with_statements(alloc, u, env, report.worst_late()),
+        None => with_statements(alloc, u, parts.env, report.worst_late()),
+    }
+}
+
+/// What a unit declares and imports, whatever its statements are, or its fault of names and declarations: that of imported and
+/// exported names and of declarations, else an enumeration that is too long (61). Of the first, the one at the least place
+/// speaks, and there the one of the least number. A form that isn't built (90) is no fault here. Each module that is imported
+/// has an interface.
+pub fn check_names(alloc: Global, u: &Unit, interfaces: &Interfaces) -> Result<Declared, ReadStop>
+    requires imported { spec.HasInterfaces interfaces.now u.now }
+    ensures right { IfOk result (λ d. (d.env ≡ (spec.declared interfaces.now u.now).0) × (d.modules ≡ (spec.brought interfaces.now u.now).modules)
+        × (d.imported ≡ spec.imported_names interfaces.now u.now) × (spec.names_worst u.now interfaces.now ≡ None)) }
+    ensures wrong { (f : Told) → result ≡ Err (stop.Fault f) → (g : Found) × (spec.names_worst u.now interfaces.now ≡ Some g) × (f ≡ spec.told g) }
+    ensures least { spec.Speaks (spec.ClassesOfNames u.now interfaces.now) (spec.names_worst u.now interfaces.now) }
+{
+    let mut report = Report::new();
+    let parts = declare_all(alloc, u, interfaces, &mut report)?;
+    match names_fault(u, &parts.env, &report) {
+        Some(fault) => {
+            drop(parts);
+            Err(ReadStop::Fault(told(fault)))
+        }
+        None => Ok(parts),
     }
 }

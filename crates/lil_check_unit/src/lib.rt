@@ -1,4 +1,4 @@
-//! A unit as a whole: the module that runs, or which fault of its names, declarations and statements speaks.
+//! A unit as a whole: what a definition declares, the module that runs, or which fault of names, declarations and statements speaks.
 #![tactic(auto)]
 
 mod assembling;
@@ -6,5 +6,6 @@ mod checking;
 mod modules;
 mod programs;
 
+pub use checking::{Declared, check_names, told};
 pub use modules::check_module;
-pub use programs::check_program;
+pub use programs::{check_program, missing_fault, naming_fault};

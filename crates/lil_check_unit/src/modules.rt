@@ -65,7 +65,7 @@ fn with_data(alloc: Global, u: &Unit, of: Checked) -> Result<RModule, ReadStop>
     ensures wrong { (f : Told) → result ≡ Err (stop.Fault f) → (g : Found) × (spec.data_fault u.now of.declared of.stated of.late ≡ Some g) × (f ≡ spec.told g) }
 {
     match data_fault(u, &of) {
-        Some(fault) => Err(told(fault)),
+        Some(fault) => Err(ReadStop::Fault(told(fault))),
         None => {
             let Checked {
                 declared,

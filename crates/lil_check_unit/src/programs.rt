@@ -18,13 +18,10 @@ use lil_resolved::RModule;
 use lil_text::{Ident, ReadStop};
 use std::alloc::Global;
 
-fn is_program(kind: UnitKind) -> bool
-    ensures { result ≡ spec.is_program kind }
+fn same_kind(a: UnitKind, b: UnitKind) -> bool
+    ensures { result ≡ spec.same_kind a b }
 {
-    match kind {
-        UnitKind::Program => true,
-        UnitKind::Definition | UnitKind::Implementation => false,
-    }
+    a == b
 }
 
 /// Whether this is the name of a resident module, of one that isn't built too.
@@ -39,16 +36,18 @@ fn is_reserved(name: &[u8]) -> bool
                         || (same_text(name, b"Channels") || same_text(name, b"SYSTEM"))))))
 }
 
-/// The fault of a unit's name or kind, where the file has this name and has to be a program's.
+/// The fault of a unit's kind or name, where its file has this name and has to be of this kind: it is of another kind (80), it
+/// has the name of a resident module (76), or another name than its file (77). The one at the least place speaks, and there the
+/// one of the least number.
 #[tactic(auto, unfolding(lil_report::specs::Told::tell))]
-fn naming_fault(file: &Name, u: &Unit) -> Option<Fault>
-    ensures { result ≡ tell None (spec.naming_rows file.now u.now) }
+pub fn naming_fault(kind: UnitKind, file: &Name, u: &Unit) -> Option<Fault>
+    ensures { result ≡ tell None (spec.naming_rows kind file.now u.now) }
 {
     let mut report = Report::new();
-    let of_program = is_program(u.head.kind);
+    let as_wanted = same_kind(kind, u.head.kind);
     let reserved = is_reserved(u.head.name.name.as_slice());
     let of_file = same_name(&u.head.name.name, file);
-    report.note(!of_program, u.head.place, FaultKind::UnitKind);
+    report.note(!as_wanted, u.head.place, FaultKind::UnitKind);
     report.note(reserved, u.head.name.place, FaultKind::ReservedModule);
     report.note(!of_file, u.head.name.place, FaultKind::FileName);
     report.worst()
@@ -97,8 +96,8 @@ fn look_for_imports(interfaces: &Interfaces, report: &mut Report, of: &[Import])
     }
 }
 
-/// The fault of a unit's imports: the first module whose interface isn't there.
-fn missing_fault(interfaces: &Interfaces, u: &Unit) -> Option<Fault>
+/// The fault of a unit's imports: the first module whose interface isn't there (90).
+pub fn missing_fault(interfaces: &Interfaces, u: &Unit) -> Option<Fault>
     ensures { result ≡ tell None (spec.missing_rows interfaces.now u.now.head.imports) }
 {
     let mut report = Report::new();
@@ -118,7 +117,7 @@ fn with_imports(alloc: Global, u: &Unit) -> Result<RModule, ReadStop>
 {
     let interfaces = all_resident(alloc)?;
     match missing_fault(&interfaces, u) {
-        Some(fault) => Err(told(fault)),
+        Some(fault) => Err(ReadStop::Fault(told(fault))),
         None => check_module(alloc, u, &interfaces),
     }
 }
@@ -139,8 +138,8 @@ pub fn check_program(alloc: Global, file: &Name, u: &Unit) -> Result<RModule, Re
     ensures wrong { (f : Told) → result ≡ Err (stop.Fault f) → (g : Found) × (spec.program_fault file.now u.now ≡ Some g) × (f ≡ spec.told g) }
     ensures least { spec.Speaks (spec.ClassesOfProgram file.now u.now) (spec.program_fault file.now u.now) }
 {
-    match naming_fault(file, u) {
-        Some(fault) => Err(told(fault)),
+    match naming_fault(UnitKind::Program, file, u) {
+        Some(fault) => Err(ReadStop::Fault(told(fault))),
         None => with_imports(alloc, u),
     }
 }

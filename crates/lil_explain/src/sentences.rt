@@ -43,7 +43,9 @@ static FAULTS: &str = "\
 65 A text has at most 262144 bytes.
 76 A module of the system has this name. Choose another one, for the file too.
 77 The module and the file must have the same name: MODULE Hello stands in Hello.MOD.
-80 Only a program can be run, which begins with MODULE and its name.
+78 The file LILITH.BOK of this folder, or a symbol file, isn't as lilith has written it. Take back a copy of it.
+79 The folder has 65535 definitions, which is all that LILITH.BOK can hold. Compile in a new folder.
+80 This is another kind of text than the command takes: once runs a program, which begins with MODULE and its name, and compile X.DEF takes a text that begins with DEFINITION MODULE.
 90 lilith can't run this yet, or has no module of this name.";
 
 /// The sentences on a fault; nothing for a number of no fault.
@@ -60,7 +62,7 @@ pub fn of_fault(number: u8) -> &'static str {
 
 /// What is shown after the line of Usage: an example of each command that is built.
 pub const USAGE: &str =
-    "For example, lilith once Hello.MOD runs the program in the file Hello.MOD of this folder. Nothing else is built yet.";
+    "For example, lilith once Hello.MOD runs the program in the file Hello.MOD of this folder. lilith compile Stacks.DEF compiles the definition in Stacks.DEF. Nothing else is built yet.";
 
 // What is told of some places and mistakes in particular. Those in small letters stand after a word that may be meant.
 pub const AND_OR: &str =

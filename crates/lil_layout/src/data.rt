@@ -8,7 +8,8 @@ use lil_declared::RVar;
 use lil_resolved::RStmt;
 use lil_types::{TypeTable, words};
 
-fn variables_words(t: &TypeTable, of: &[RVar]) -> u32
+/// How many words variables take, or 4,294,967,295 where they are more.
+pub fn variables_words(t: &TypeTable, of: &[RVar]) -> u32
     ensures { result ≡ min (sum_by (spec.variable_words t.now) of.now) 4294967295 }
 {
     let mut sum: u32 = 0;

@@ -5,5 +5,5 @@ mod data;
 mod strings;
 mod values;
 
-pub use data::data_words;
+pub use data::{data_words, variables_words};
 pub use strings::body_words;

@@ -5,8 +5,8 @@ use Rattle.std.proofs.lemmas.{Bool.both_ways, List.append-nil}
 use Rattle.lil_base.specs.declared.fault.SourceFault.{SourceFault}
 use Rattle.lil_resolved.specs.Resolved.{Resolved}
 use Rattle.lil_meaning.specs.{World.World, Items.Going, Runs.{begun, state_of}}
-use Rattle.lil_volume.specs.{Causes.{Rose, VolumeCause}, declared.outside.VolumeError.{VolumeError, TheVariants.Failed}, Told.{Files, FileIs, followed_by}}
-use Rattle.lil_session.specs.{declared.status.Status.Status, Words.mod_file, Outcome.{cuts, settled, gives_way, Answers, EndsSo, SourceAnswers, TextAnswers, Blames, Devices, Finds, HasFault, HasMeaning, IsRunAnswer, IsRunnable, MeansAnswer, ReadsOne, Runs}, Counted.MachineAnswers, Headline.{with_writes, Allowed, Headline, Shows}}
+use Rattle.lil_volume.specs.{Causes.{Rose, VolumeCause}, declared.outside.VolumeError.{VolumeError, TheVariants.Failed}, Told.{Files, FileIs, with_writes, followed_by}}
+use Rattle.lil_session.specs.{declared.status.Status.Status, Words.mod_file, Outcome.{cuts, settled, gives_way, Answers, EndsSo, SourceAnswers, TextAnswers, Blames, Devices, Finds, HasFault, HasMeaning, IsRunAnswer, IsRunnable, MeansAnswer, ReadsOne, Runs}, Counted.MachineAnswers, Headline.{Allowed, Headline, Shows}}
 use Rattle.lil_session.specs.Answered.{TextRan, CommandRan, IsAnswer, IsUnrun}
 use Rattle.lil_session.specs.declared.status.Status.TheVariants as a
 use Rattle.lil_session.proofs.{Agree.texts_agree, Screens.{after_grows, after_writes}}
@@ -38,7 +38,7 @@ headline_of p w steps before after s finds shows same_keys same_files = record {
   files = same_files ∙ ap (λ (l : List (List ℕ × List ℕ)). with_writes before.files l) (sym (after_writes (p ∷ []) shows.n (begun (p ∷ []) (0 ∷ []) (1 ∷ []) w) finds.no_stream finds.no_channel ∙ finds.nothing_written));
 }
 
-some_same : {A : Type 0} (x y : A) → Some x ≡ Some y → x ≡ y
+pub some_same : {A : Type 0} (x y : A) → Some x ≡ Some y → x ≡ y
 some_same x y same = cc
 
 -- the volume's file, in the world that is found

@@ -3,6 +3,7 @@ mod Agree
 mod Counting
 mod Cuts
 mod Declared
+mod Defining
 mod Doing
 mod Faulty
 mod Endings

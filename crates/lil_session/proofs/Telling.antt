@@ -11,7 +11,7 @@ use Rattle.lil_session.specs.Answered.{IsAnswer, IsUnrun, Call, CommandReported,
 use Rattle.lil_session.specs.declared.status.Status.TheVariants as a
 use Rattle.lil_session.proofs.Counting.{ran_settled, ran_memory, over_where}
 
-settled_stays : (s : Status) → settled s ≡ true → gives_way s ≡ false
+pub settled_stays : (s : Status) → settled s ≡ true → gives_way s ≡ false
 settled_stays a.VolumeFault is = cc
 settled_stays a.KeyFault is = cc
 settled_stays a.ScreenFault is = cc

@@ -1,15 +1,10 @@
 -- THE HEADLINE: what a text with a meaning shows, and how far its meaning has come.
-use Rattle.std.specs.Prelude.{◌≡◌, ◌≢◌, ◌⊎◌, ℕ, suc, ◌+◌, ◌*◌, ◌≤◌, List, [], ◌∷◌, ◌++◌, Option, Some, ⊤}
+use Rattle.std.specs.Prelude.{◌≡◌, ◌≢◌, ◌⊎◌, ℕ, suc, ◌+◌, ◌*◌, ◌≤◌, List, ◌++◌, Option, Some, ⊤}
 use Rattle.lil_resolved.specs.Resolved.{Resolved}
 use Rattle.lil_meaning.specs.{World.World, Items.{Source, Phase, Going, Ended, Trapped}, Runs.state_of}
-use Rattle.lil_volume.specs.Told.{Files, with_file, followed_by, FollowedByPrefix}
+use Rattle.lil_volume.specs.Told.{with_writes, followed_by, FollowedByPrefix}
 use Rattle.lil_session.specs.{declared.status.Status.Status, Outcome.Devices, Counted.MachineAnswers}
 use Rattle.lil_session.specs.declared.status.Status.TheVariants as a
-
--- files after a list of writes
-abbrev pub with_writes : Option Files → List (List ℕ × List ℕ) → Option Files
-with_writes files [] = files
-with_writes files (x ∷ xs) = with_writes (with_file files x.0 x.1) xs
 
 -- an answer that says how a run ended agrees with the state of the meaning
 abbrev pub Allowed : Status → Phase → Type 0

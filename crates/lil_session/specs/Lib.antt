@@ -1,5 +1,6 @@
 pub mod Answered
 pub mod Counted
+pub mod Defined
 pub mod Headline
 pub mod Loaded
 pub mod Outcome

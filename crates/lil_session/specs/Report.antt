@@ -5,7 +5,7 @@ use Rattle.lil_base.specs.declared.fault.TrapKind.TheVariants as trap
 use Rattle.lil_base.specs.declared.fault.LimitKind.TheVariants as limit
 use Rattle.lil_base.specs.declared.fault.LoadRefusal.TheVariants as load
 use Rattle.lil_volume.specs.{Causes.Rose, Told.{followed_by, FollowedByPrefix}}
-use Rattle.lil_session.specs.{declared.status.Status.Status, Outcome.{gives_way, settled, ReportBlames}, Words.once_word}
+use Rattle.lil_session.specs.{declared.status.Status.Status, Outcome.{gives_way, settled, ReportBlames}, Words.word_behind}
 use Rattle.lil_session.specs.declared.status.Status.TheVariants as a
 
 abbrev pub trap_name : TrapKind → List ℕ
@@ -94,9 +94,9 @@ abbrev pub bytes_or_none : Option (List ℕ) → List ℕ
 bytes_or_none None = []
 bytes_or_none (Some word) = word
 
--- the file at hand: the second word of a command `once`
-abbrev pub file_of : List (List ℕ) → List ℕ
-file_of words = bytes_or_none (once_word words)
+-- the file at hand: the second of two words, where the first is this command
+abbrev pub file_of : List ℕ → List (List ℕ) → List ℕ
+file_of command words = bytes_or_none (word_behind command words)
 
 -- What became of an answer: it stays, or its lines failed, or memory was wanted for them. An answer that gives way stays, Done has no
 -- lines, and fixed lines want no memory.

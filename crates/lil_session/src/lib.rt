@@ -1,6 +1,7 @@
-//! The top call: reading, translating and running programs.
+//! The top call: compiling definitions, and reading, translating and running programs.
 #![tactic(auto)]
 
+mod definition;
 mod lines;
 mod options;
 mod rack;

@@ -40,7 +40,7 @@ pub(crate) fn limit_line(kind: LimitKind) -> &'static [u8]
     }
 }
 
-fn put_number(alloc: Global, line: &mut Bytes, n: u32) -> Result<(), Memory>
+pub(crate) fn put_number(alloc: Global, line: &mut Bytes, n: u32) -> Result<(), Memory>
     ensures { OnOk result (line.new ≡ line.old ++ decimal n) }
 {
     let text = n.to_string(alloc)?;

@@ -31,7 +31,7 @@ fn try_put<R: Sink>(report: &mut R, piece: &[u8])
 }
 
 /// Puts the lines of an answer, which then is the same, or the report's fault.
-fn put_lines<R: Sink>(report: &mut R, lines: &[u8], status: Status) -> Status
+pub(crate) fn put_lines<R: Sink>(report: &mut R, lines: &[u8], status: Status) -> Status
     ensures { Lined lines.now status (R.written report.old) (R.faults report.old) (R.written report.new) (R.faults report.new) result }
 {
     match report.put(lines) {

@@ -113,7 +113,7 @@ fn run_once<V: Volume, K: Keyboard, S: Sink>(
     ensures { let at = devices V.files V.faults K.left K.faults S.written S.faults in
         CommandRan (name_of_word word.now) steps (at volume.old keys.old screen.old) (at volume.new keys.new screen.new) result }
 {
-    match named(alloc, word.as_slice()) {
+    match named(alloc, word.as_slice(), FileKind::Module) {
         Err(_) => Status::Memory,
         Ok(None) => Status::Usage,
         Ok(Some(name)) => run_source(alloc, &name, steps, volume, keys, screen),

@@ -1,8 +1,8 @@
 ghost use Rattle.std.specs.Prelude.{◌≡◌, IfOk};
 ghost use Rattle.std.specs.{Option.option_copied, Str.bytes_eq};
-ghost use Rattle.lil_session.specs.Words.{name_of_word, once_word};
+ghost use Rattle.lil_session.specs.Words as spec;
 
-use lil_base::{Memory, Name, Text};
+use lil_base::{FileKind, Memory, Name, Text};
 use std::alloc::Global;
 
 fn are_bytes(a: &[u8], b: &[u8]) -> bool
@@ -11,32 +11,27 @@ fn are_bytes(a: &[u8], b: &[u8]) -> bool
     a == b
 }
 
-/// The name of a word that is a name and `.MOD`, or None where it is another word.
-pub(crate) fn named(alloc: Global, word: &[u8]) -> Result<Option<Name>, Memory>
-    ensures { IfOk result (λ o. o ≡ name_of_word word.now) }
+/// The name of a word that is a name and the ending of such a file, or None where it is another word.
+pub(crate) fn named(alloc: Global, word: &[u8], kind: FileKind) -> Result<Option<Name>, Memory>
+    ensures { IfOk result (λ o. o ≡ spec.name_before kind word.now) }
 {
-    if word.len() < 4 {
+    let ending = kind.ending();
+    if word.len() < ending.len() {
         return Ok(None);
     }
-    let at = word.len() - 4;
-    if !are_bytes(&word[at..], b".MOD") {
+    let at = word.len() - ending.len();
+    if !are_bytes(&word[at..], ending) {
         return Ok(None);
     }
     Name::of_slice(alloc, &word[..at])
 }
 
-/// The second word of a command `once`.
-pub(crate) fn word_of_once(words: &[Text]) -> Option<&Text>
-    ensures { option_copied result ≡ once_word words.now }
+/// The second of two words, where the first is this command.
+pub(crate) fn word_behind<'a>(command: &[u8], words: &'a [Text]) -> Option<&'a Text>
+    ensures { option_copied result ≡ spec.word_behind command.now words.now }
 {
     match words {
-        [command, word] => {
-            if are_bytes(command.as_slice(), b"once") {
-                Some(word)
-            } else {
-                None
-            }
-        }
+        [first, word] if are_bytes(first.as_slice(), command) => Some(word),
         _ => None,
     }
 }

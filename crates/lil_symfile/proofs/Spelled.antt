@@ -1,7 +1,8 @@
 -- What is written is the spelling, and what fits is short enough to be written.
-use Rattle.std.proofs.Common.{◌≡◌, ℕ, List, [], ◌∷◌, ◌++◌, length, refl, ap}
+use Rattle.std.proofs.Common.{◌≡◌, ℕ, ◌<◌, List, [], ◌∷◌, ◌++◌, length, refl, ap}
 use Rattle.std.specs.Prelude.{codes}
-use Rattle.std.specs.List.{flat_map, AllByRecursion}
+use Rattle.std.specs.List.{flat_map, All}
+use Rattle.std.proofs.lemmas.List.Elements.{All-from_recursion}
 use Rattle.lil_base.specs.Fields.{bytes16, bytes32}
 use Rattle.lil_format.specs.declared.name.Wanted.{Wanted}
 use Rattle.lil_format.specs.Reading.{u2}
@@ -14,9 +15,10 @@ use Rattle.lil_symfile.specs.declared.tree.Form.{Form, TheVariants.{Enumeration,
 use Rattle.lil_symfile.specs.declared.tree.Class.{Class}
 use Rattle.lil_symfile.specs.declared.tree.Class.TheVariants as class
 use Rattle.lil_symfile.specs.Kinds.{kinds}
+use Rattle.lil_symfile.specs.Laws.{each_all}
 use Rattle.lil_symfile.specs.Symbol as spec
 use Rattle.lil_symfile.specs.Symbol.{rest, rests, sort, field, fields, flags, parameter, parameters, answer, constants, enumeration, lower, upper, subrange, array, record_form, set_form, pointer, procedure, form, sym_type, types, whole, scalar, chars, type_name, variable, routine, class_of, shown, sym_name, names, symbol_file}
-use Rattle.lil_symfile.specs.Written.{rests_bytes, constants_bytes, field_bytes, fields_bytes, parameter_bytes, parameters_bytes, form_bytes, type_bytes, types_bytes, class_bytes, name_bytes, names_bytes, file_bytes, short_form, short_type, short_class, short_name, IsShort}
+use Rattle.lil_symfile.specs.Written.{rests_bytes, constants_bytes, field_bytes, fields_bytes, parameter_bytes, parameters_bytes, form_bytes, type_bytes, types_bytes, class_bytes, name_bytes, names_bytes, file_bytes, short_field, short_fields, short_parameter, short_parameters, short_form, short_type, short_class, short_name, IsShort}
 
 -- ---- lists whose parts are spelled alike, whatever stands before
 each_flat : {A : Type 0} (S : List A → A → List ℕ) (spell : A → List ℕ) → ((done : List A) (a : A) → S done a ≡ spell a)
@@ -24,10 +26,9 @@ each_flat : {A : Type 0} (S : List A → A → List ℕ) (spell : A → List ℕ
 each_flat S spell e done [] = refl
 each_flat S spell e done (x ∷ xs) = (λ j. e done x j ++ each_flat S spell e (done ++ x ∷ []) xs j)
 
-each_all : {A : Type 0} (F : List A → A → Type 0) (short : A → Type 0) → ((done : List A) (a : A) → F done a → short a)
-    → (done xs : List A) → each_fits F done xs → AllByRecursion short xs
-each_all F short e done [] h = tt
-each_all F short e done (x ∷ xs) h = (e done x h.0, each_all F short e (done ++ x ∷ []) xs h.1)
+each_short : {A : Type 0} (F : List A → A → Type 0) (short : A → Type 0) → ((done : List A) (a : A) → F done a → short a)
+    → (xs : List A) → each_fits F [] xs → All short xs
+each_short F short e xs h = All-from_recursion short xs (each_all F short e [] xs h)
 
 counted : {A : Type 0} (xs : List A) {s r : List ℕ} → s ≡ r → bytes16 (length xs) ++ s ≡ bytes16 (length xs) ++ r
 counted xs e = ap (λ (r : List ℕ). bytes16 (length xs) ++ r) e
@@ -91,29 +92,45 @@ file_is f = λ j.
     ++ (rests_is f.rests j ++ (types_is (length f.rests) f.types j ++ names_is (kinds f.types) f.names j))))
 
 -- ---- what fits is short
+field_short : (ks : List Kind) (ns : List (List ℕ)) (f : Field) → Fits (field ks ns) f → short_field f
+unfolding field sort Fits
+field_short ks ns f h = h.1.1.1
+
+parameter_short : (ks : List Kind) (p : Parameter) → Fits (parameter ks) p → short_parameter p
+unfolding parameter sort Fits
+parameter_short ks p h = h.1.1.1
+
+fields_short : (ks : List Kind) (fs : List Field) → Fits (fields ks) fs → (length fs < 65536) × short_fields fs
+unfolding fields Fits
+fields_short ks fs h = (h.1, each_short (λ done. Fits (field ks (spec.field_names done))) short_field (λ done f g. field_short ks (spec.field_names done) f g) fs h.2)
+
+parameters_short : (ks : List Kind) (ps : List Parameter) → Fits (parameters ks) ps → (length ps < 256) × short_parameters ps
+unfolding parameters Fits
+parameters_short ks ps h = (h.1, each_short (λ done. Fits (parameter ks)) short_parameter (λ done p g. parameter_short ks p g) ps h.2)
+
 form_short : (count : ℕ) (ks : List Kind) (f : Form) → Fits (form count ks) f → short_form f
-unfolding form enumeration constants subrange lower upper record_form fields procedure parameters Fits
+unfolding form enumeration constants subrange lower upper array record_form set_form pointer procedure sort answer Fits
 form_short count ks (Enumeration ns) h = h.2.1.1
-form_short count ks (Subrange base low high) h = (h.2.1.1.0.1, h.2.1.1.1.1)
-form_short count ks (Array index element) h = tt
-form_short count ks (Record fs) h = h.2.1.1
-form_short count ks (Set base) h = tt
-form_short count ks (Pointer target) h = tt
-form_short count ks (Procedure ps a) h = h.2.1.0.1
+form_short count ks (Subrange base low high) h = (h.2.1.0.1, h.2.1.1.0.1, h.2.1.1.1.1)
+form_short count ks (Array index element) h = (h.2.1.0.1, h.2.1.1.1)
+form_short count ks (Record fs) h = fields_short ks fs h.2.1
+form_short count ks (Set base) h = h.2.1.1
+form_short count ks (Pointer target) h = h.2.1.1
+form_short count ks (Procedure ps a) h = let p = parameters_short ks ps h.2.1.0 in (p.0, p.1, h.2.1.1.1)
 form_short count ks Opaque h = tt
 
 type_short : (rested count : ℕ) (ks : List Kind) (t : SymType) → Fits (sym_type rested count ks) t → short_type t
 unfolding sym_type Fits
-type_short rested count ks t h = form_short count ks t.form h.1.1.1
+type_short rested count ks t h = (h.1.0.1, h.1.1.0.1, form_short count ks t.form h.1.1.1)
 
 class_short : (ks : List Kind) (c : Class) → Fits (class_of ks) c → short_class c
-unfolding class_of chars Fits
+unfolding class_of scalar chars type_name variable routine sort Fits
 class_short ks (class.Whole value) h = tt
-class_short ks (class.Scalar n word) h = tt
+class_short ks (class.Scalar n word) h = h.2.1.0.1
 class_short ks (class.Chars t) h = h.2.1.1
-class_short ks (class.Sort n) h = tt
-class_short ks (class.Variable n offset) h = tt
-class_short ks (class.Procedure n place) h = tt
+class_short ks (class.Sort n) h = h.2.1.1
+class_short ks (class.Variable n offset) h = (h.2.1.0.1, h.2.1.1.1)
+class_short ks (class.Procedure n place) h = (h.2.1.0.1, h.2.1.1.1)
 
 name_short : (ks : List Kind) (ns : List (List ℕ)) (x : SymName) → Fits (sym_name ks ns) x → short_name x
 unfolding sym_name Fits
@@ -130,7 +147,7 @@ file_short f h =
     record {
       rests = parts.0.1;
       types = parts.1.0.1;
-      each_type = each_all (λ done. Fits (sym_type count many (kinds done))) short_type (λ done t g. type_short count many (kinds done) t g) [] f.types parts.1.0.2;
+      each_type = each_short (λ done. Fits (sym_type count many (kinds done))) short_type (λ done t g. type_short count many (kinds done) t g) f.types parts.1.0.2;
       names = parts.1.1.1;
-      each_name = each_all (λ done. Fits (sym_name all (seen done))) short_name (λ done x g. name_short all (seen done) x g) [] f.names parts.1.1.2;
+      each_name = each_short (λ done. Fits (sym_name all (seen done))) short_name (λ done x g. name_short all (seen done) x g) f.names parts.1.1.2;
     }

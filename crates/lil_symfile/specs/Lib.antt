@@ -1,4 +1,5 @@
 pub mod Kinds
+pub mod Laws
 pub mod Numbers
 pub mod Seen
 pub mod Symbol

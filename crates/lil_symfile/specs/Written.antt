@@ -1,6 +1,6 @@
 -- What is written of each part, and which parts are short enough for their counts and numbers.
-use Rattle.std.specs.Prelude.{ℕ, ◌<◌, List, [], ◌∷◌, ◌++◌, length, ⊤, codes}
-use Rattle.std.specs.List.{flat_map, AllByRecursion}
+use Rattle.std.specs.Prelude.{ℕ, ◌<◌, List, [], ◌∷◌, ◌++◌, length, Option, ⊤, codes}
+use Rattle.std.specs.List.{flat_map, All}
 use Rattle.lil_base.specs.Fields.{bytes16, bytes32}
 use Rattle.lil_format.specs.Format.{spelling}
 use Rattle.lil_format.specs.declared.name.Wanted.{Wanted}
@@ -65,36 +65,52 @@ names_bytes xs = bytes16 (length xs) ++ flat_map name_bytes xs
 abbrev pub file_bytes : SymbolFile → List ℕ
 file_bytes f = codes "LSYM" ++ 1 ∷ (spelling name f.name ++ (bytes32 f.key.0 ++ (rests_bytes f.rests ++ (types_bytes f.types ++ names_bytes f.names))))
 
--- ---- counts and bounds that their fields hold
+-- ---- counts, numbers and bounds that their fields hold
+abbrev pub short_field : Field → Type 0
+short_field f = f.sort < 65536
+
+abbrev pub short_fields : List Field → Type 0
+short_fields fs = All short_field fs
+
+abbrev pub short_parameter : Parameter → Type 0
+short_parameter p = p.sort < 65536
+
+abbrev pub short_parameters : List Parameter → Type 0
+short_parameters ps = All short_parameter ps
+
+-- None has the number 65535
+abbrev pub short_answer : Option ℕ → Type 0
+short_answer a = answer_code a < 65536
+
 abbrev pub short_form : Form → Type 0
 short_form (Enumeration names) = length names < 65536
-short_form (Subrange base lower upper) = (word_of lower < 65536) × (word_of upper < 65536)
-short_form (Array index element) = ⊤
-short_form (Record fields) = length fields < 65536
-short_form (Set base) = ⊤
-short_form (Pointer target) = ⊤
-short_form (Procedure parameters answer) = length parameters < 256
+short_form (Subrange base lower upper) = (base < 65536) × (word_of lower < 65536) × (word_of upper < 65536)
+short_form (Array index element) = (index < 65536) × (element < 65536)
+short_form (Record fields) = (length fields < 65536) × short_fields fields
+short_form (Set base) = base < 65536
+short_form (Pointer target) = target < 65536
+short_form (Procedure parameters answer) = (length parameters < 256) × short_parameters parameters × short_answer answer
 short_form Opaque = ⊤
 
 abbrev pub short_class : Class → Type 0
 short_class (class.Whole value) = ⊤
-short_class (class.Scalar sort word) = ⊤
+short_class (class.Scalar sort word) = sort < 65536
 short_class (class.Chars text) = length text < 65536
-short_class (class.Sort sort) = ⊤
-short_class (class.Variable sort offset) = ⊤
-short_class (class.Procedure sort number) = ⊤
+short_class (class.Sort sort) = sort < 65536
+short_class (class.Variable sort offset) = (sort < 65536) × (offset < 65536)
+short_class (class.Procedure sort number) = (sort < 65536) × (number < 256)
 
 abbrev pub short_type : SymType → Type 0
-short_type t = short_form t.form
+short_type t = (t.origin < 256) × (t.number < 65536) × short_form t.form
 
 abbrev pub short_name : SymName → Type 0
 short_name x = short_class x.class
 
 abbrev pub short_types : List SymType → Type 0
-short_types ts = AllByRecursion short_type ts
+short_types ts = All short_type ts
 
 abbrev pub short_names : List SymName → Type 0
-short_names xs = AllByRecursion short_name xs
+short_names xs = All short_name xs
 
 pub record IsShort (f : SymbolFile) : Type 0 where
   pub rests : length f.rests < 256

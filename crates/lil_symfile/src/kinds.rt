@@ -1,5 +1,5 @@
-ghost use Rattle.std.specs.Prelude.{◌≡◌, false, pos};
-ghost use Rattle.lil_format.specs.Reading.{Reads};
+ghost use Rattle.std.specs.Prelude.{◌≡◌, false, pos, MatchOption, Some, None};
+ghost use Rattle.lil_format.specs.Reading.{Reads, number_of, u2};
 ghost use Rattle.lil_format.specs.Format.{reads};
 ghost use Rattle.lil_symfile.specs.Symbol as spec;
 ghost use Rattle.lil_symfile.specs.Kinds as kinds;
@@ -71,7 +71,7 @@ fn kind_at(all: &[Kind], n: TypeNumber) -> Option<Kind>
     if n < 16 {
         standard(n)
     } else {
-        all.get(usize::from(n) - 16).copied()
+        all.get(n as usize - 16).copied()
     }
 }
 
@@ -162,13 +162,21 @@ pub fn kind_of(all: &[Kind], form: &Form) -> Kind
     }
 }
 
+/// Takes the two bytes of a type's number; none where they aren't whole.
+pub fn type_number(source: &mut Source<'_>) -> Option<TypeNumber>
+    ensures { MatchOption result (number_of u2 source.old ≡ None) (λ n. number_of u2 source.old ≡ Some (n, source.new)) }
+{
+    let number = source.word()?;
+    Some(TypeNumber::from(number))
+}
+
 /// The number of a type before that keeps a rule.
 #[tactic(auto, unfolding(crate::specs::Symbol::sort, lil_format::specs::Format::reads))]
 pub fn sort(source: &mut Source<'_>, all: &[Kind], rule: Rule) -> Result<TypeNumber, Stop>
     ensures { Reads (reads (spec.sort all.now rule) source.old) result source.new }
 {
     let here = source.left();
-    match source.word() {
+    match type_number(source) {
         None => Err(Stop::Left(0)),
         Some(n) if names_type(all, rule, n) => Ok(n),
         Some(_) => Err(Stop::Left(here)),

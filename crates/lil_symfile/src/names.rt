@@ -52,18 +52,18 @@ fn variable(source: &mut Source<'_>, kinds: &[Kind]) -> Result<Class, Stop>
     ensures { Reads (spec.class_arm (spec.variable kinds.now) 5 source.old) result source.new }
 {
     let sort = sort(source, kinds, Rule::Any)?;
-    let offset = any_word(source)?;
+    let offset = u32::from(any_word(source)?);
     Ok(Class::Variable { sort, offset })
 }
 
 /// A procedure's number, from 1.
-fn place(source: &mut Source<'_>) -> Result<u8, Stop>
+fn place(source: &mut Source<'_>) -> Result<u32, Stop>
     ensures { Reads (number_in u1 (such spec.at_least_one) source.old) result source.new }
 {
     let here = source.left();
     match source.byte() {
         None => Err(Stop::Left(0)),
-        Some(n) if 1 <= n => Ok(n),
+        Some(n) if 1 <= n => Ok(u32::from(n)),
         Some(_) => Err(Stop::Left(here)),
     }
 }

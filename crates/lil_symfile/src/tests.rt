@@ -1,5 +1,5 @@
 use super::*;
-use lil_base::{Bytes, FormatStop};
+use lil_base::{Bytes, FormatStop, Items, Key, Name};
 use std::test::*;
 
 /// A file with a type of each form and a name of each class.
@@ -179,5 +179,42 @@ fn a_rest_twice(rt: HostRuntime) -> Result<(), Fail> {
         76, 83, 89, 77, 1, 1, 65, 0, 0, 0, 1, 2, 1, 66, 0, 0, 0, 7, 1, 66, 0, 0, 0, 7, 0, 0, 0, 0,
     ];
     assert!(rt; stops(rt, &bytes, 19)?);
+    Ok(())
+}
+
+/// A file of one type, which is opaque and has this number.
+fn of_one(rt: HostRuntime, number: TypeNumber) -> Result<SymbolFile, Fail> {
+    let name = Name::of_slice(rt.alloc(), b"A").ok().ok_or("memory")?;
+    let mut types = Items::new(rt.alloc());
+    let one = SymType {
+        origin: 0,
+        number,
+        form: Form::Opaque,
+    };
+    types.push(one).ok().ok_or("memory")?;
+    Ok(SymbolFile {
+        name: name.ok_or("this is a name")?,
+        key: Key(1),
+        rests: Items::new(rt.alloc()),
+        types,
+        names: Items::new(rt.alloc()),
+    })
+}
+
+fn is_spelled(rt: HostRuntime, file: &SymbolFile) -> Result<bool, Fail> {
+    Ok(has_spelling(rt.alloc(), file).ok().ok_or("memory")?)
+}
+
+#[test]
+fn spelled_or_not(rt: HostRuntime) -> Result<(), Fail> {
+    let bytes = Bytes::from_slice(rt.alloc(), &SAMPLE).ok().ok_or("memory")?;
+    let file = read_sym(rt.alloc(), &bytes)
+        .ok()
+        .ok_or("these are a symbol file")?;
+    assert!(rt; is_spelled(rt, &file)?);
+    assert!(rt; is_spelled(rt, &of_one(rt, 16)?)?);
+    // another number than that of its place, and one that is 16 in two bytes
+    assert!(rt; !is_spelled(rt, &of_one(rt, 17)?)?);
+    assert!(rt; !is_spelled(rt, &of_one(rt, 65552)?)?);
     Ok(())
 }

@@ -1,8 +1,8 @@
 use lil_base::{Items, Key, Name, Text};
 use lil_format::Wanted;
 
-/// The number of a type: 0 to 7 are the standard ones, those of a file begin at 16.
-pub type TypeNumber = u16;
+/// The number of a type: 0 to 7 are the standard ones, those of a file begin at 16. A file has two bytes for it.
+pub type TypeNumber = u32;
 
 /// A field of a record.
 #[derive(Drop)]
@@ -55,7 +55,7 @@ pub enum Form {
 /// form.
 #[derive(Drop)]
 pub struct SymType {
-    pub origin: u8,
+    pub origin: u32,
     pub number: TypeNumber,
     pub form: Form,
 }
@@ -72,9 +72,9 @@ pub enum Class {
     /// A type.
     Sort { sort: TypeNumber },
     /// A variable, with its place in the module's data.
-    Variable { sort: TypeNumber, offset: u16 },
+    Variable { sort: TypeNumber, offset: u32 },
     /// A procedure, with its number in the module, from 1.
-    Procedure { sort: TypeNumber, number: u8 },
+    Procedure { sort: TypeNumber, number: u32 },
 }
 
 /// A name that the definition declares, and whether it exports it.

@@ -5,7 +5,7 @@ ghost use Rattle.lil_symfile.specs.Symbol as spec;
 ghost use Rattle.lil_symfile.specs.Kinds.{kind_of as spec_kind_of, kinds as kinds_of};
 
 use crate::bounds::{lower, upper};
-use crate::kinds::{Kind, Rule, base_signed, kind_of, names_type, sort};
+use crate::kinds::{Kind, Rule, base_signed, kind_of, names_type, sort, type_number};
 use crate::seen::{Seen, new_name};
 use crate::tree::{Field, Form, Parameter, SymType, TypeNumber};
 use lil_base::{Items, Name};
@@ -119,7 +119,7 @@ fn answer(source: &mut Source<'_>, kinds: &[Kind]) -> Result<Option<TypeNumber>,
     ensures { Reads (reads (spec.answer kinds.now) source.old) result source.new }
 {
     let here = source.left();
-    match source.word() {
+    match type_number(source) {
         None => Err(Stop::Left(0)),
         Some(65535) => Ok(None),
         Some(n) if names_type(kinds, Rule::Any, n) => Ok(Some(n)),
@@ -177,7 +177,7 @@ fn set_form(source: &mut Source<'_>, kinds: &[Kind]) -> Result<Form, Stop>
 fn in_file(count: usize, n: TypeNumber) -> bool
     ensures { result ≡ spec.in_file count n }
 {
-    n < 8 || (16 <= n && usize::from(n) - 16 < count)
+    n < 8 || (16 <= n && n as usize - 16 < count)
 }
 
 #[tactic(auto, unfolding(crate::specs::Symbol::pointer, lil_format::specs::Format::reads))]
@@ -185,7 +185,7 @@ fn pointer(source: &mut Source<'_>, count: usize) -> Result<Form, Stop>
     ensures { Reads (spec.form_arm (spec.pointer count) 6 source.old) result source.new }
 {
     let here = source.left();
-    match source.word() {
+    match type_number(source) {
         None => Err(Stop::Left(0)),
         Some(target) if in_file(count, target) => Ok(Form::Pointer { target }),
         Some(_) => Err(Stop::Left(here)),
@@ -247,32 +247,32 @@ fn form(alloc: Global, source: &mut Source<'_>, count: usize, kinds: &[Kind]) ->
 
 // ---- types
 
-fn origin(source: &mut Source<'_>, rested: usize) -> Result<u8, Stop>
+fn origin(source: &mut Source<'_>, rested: usize) -> Result<u32, Stop>
     ensures { Reads (number_in u1 (such (spec.is_origin rested)) source.old) result source.new }
 {
     let here = source.left();
     match source.byte() {
         None => Err(Stop::Left(0)),
-        Some(n) if usize::from(n) <= rested => Ok(n),
+        Some(n) if usize::from(n) <= rested => Ok(u32::from(n)),
         Some(_) => Err(Stop::Left(here)),
     }
 }
 
-fn number_fits(before: usize, origin: u8, n: TypeNumber) -> bool
+fn number_fits(before: usize, origin: u32, n: TypeNumber) -> bool
     ensures { result ≡ spec.number_fits before origin n }
 {
     if origin == 0 {
-        16 <= n && usize::from(n) - 16 == before
+        16 <= n && n as usize - 16 == before
     } else {
         16 <= n
     }
 }
 
-fn number(source: &mut Source<'_>, before: usize, origin: u8) -> Result<TypeNumber, Stop>
+fn number(source: &mut Source<'_>, before: usize, origin: u32) -> Result<TypeNumber, Stop>
     ensures { Reads (number_in u2 (such (spec.number_fits before origin)) source.old) result source.new }
 {
     let here = source.left();
-    match source.word() {
+    match type_number(source) {
         None => Err(Stop::Left(0)),
         Some(n) if number_fits(before, origin, n) => Ok(n),
         Some(_) => Err(Stop::Left(here)),

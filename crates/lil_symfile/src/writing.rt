@@ -23,15 +23,25 @@ fn put_constants(out: &mut Bytes, all: &[Name]) -> Result<(), Memory>
     Ok(())
 }
 
+/// A number that two bytes hold.
+fn put_word(out: &mut Bytes, number: u32) -> Result<(), Memory>
+    requires { number < 65536 }
+    ensures { OnOk result (out.new ≡ out.old ++ bytes16 number) }
+{
+    put16(out, number as u16)
+}
+
 fn put_field(out: &mut Bytes, field: &Field) -> Result<(), Memory>
+    requires { written.short_field field.now }
     ensures { OnOk result (out.new ≡ out.old ++ written.field_bytes field.now) }
 {
     put_name(out, &field.name)?;
-    put16(out, field.sort)
+    put_word(out, field.sort)
 }
 
 fn put_fields(out: &mut Bytes, all: &[Field]) -> Result<(), Memory>
-    requires { length all.now < 65536 }
+    requires count { length all.now < 65536 }
+    requires each { written.short_fields all.now }
     ensures { OnOk result (out.new ≡ out.old ++ written.fields_bytes all.now) }
 {
     put16(out, all.len() as u16)?;
@@ -53,14 +63,16 @@ fn flags_code(by_place: bool, open_array: bool) -> u8
 }
 
 fn put_parameter(out: &mut Bytes, parameter: Parameter) -> Result<(), Memory>
+    requires { written.short_parameter parameter }
     ensures { OnOk result (out.new ≡ out.old ++ written.parameter_bytes parameter) }
 {
     out.push(flags_code(parameter.by_place, parameter.open_array))?;
-    put16(out, parameter.sort)
+    put_word(out, parameter.sort)
 }
 
 fn put_parameters(out: &mut Bytes, all: &[Parameter]) -> Result<(), Memory>
-    requires { length all.now < 256 }
+    requires count { length all.now < 256 }
+    requires each { written.short_parameters all.now }
     ensures { OnOk result (out.new ≡ out.old ++ written.parameters_bytes all.now) }
 {
     out.push(all.len() as u8)?;
@@ -71,23 +83,24 @@ fn put_parameters(out: &mut Bytes, all: &[Parameter]) -> Result<(), Memory>
 }
 
 fn put_answer(out: &mut Bytes, answer: Option<TypeNumber>) -> Result<(), Memory>
+    requires { written.short_answer answer }
     ensures { OnOk result (out.new ≡ out.old ++ bytes16 (spec.answer_code answer)) }
 {
     match answer {
         None => put16(out, 65535),
-        Some(n) => put16(out, n),
+        Some(n) => put_word(out, n),
     }
 }
 
 /// The word of a number that it holds.
-fn word_of(number: i32) -> u16
+fn word_of(number: i32) -> u32
     requires { numbers.word_of number < 65536 }
     ensures { result ≡ numbers.word_of number }
 {
     if 0 <= number {
-        number as u16
+        number as u32
     } else {
-        65535u32.saturating_sub((-1 - number) as u32) as u16
+        65535u32.saturating_sub((-1 - number) as u32)
     }
 }
 
@@ -102,19 +115,22 @@ fn long_of(number: i32) -> u32
     }
 }
 
-fn put_two(out: &mut Bytes, first: u16, second: u16) -> Result<(), Memory>
+fn put_two(out: &mut Bytes, first: u32, second: u32) -> Result<(), Memory>
+    requires first { first < 65536 }
+    requires second { second < 65536 }
     ensures { OnOk result (out.new ≡ out.old ++ (bytes16 first ++ bytes16 second)) }
 {
-    put16(out, first)?;
-    put16(out, second)
+    put_word(out, first)?;
+    put_word(out, second)
 }
 
 fn put_subrange(out: &mut Bytes, base: TypeNumber, lower: i32, upper: i32) -> Result<(), Memory>
+    requires base { base < 65536 }
     requires low { numbers.word_of lower < 65536 }
     requires high { numbers.word_of upper < 65536 }
     ensures { OnOk result (out.new ≡ out.old ++ (bytes16 base ++ (bytes16 (numbers.word_of lower) ++ bytes16 (numbers.word_of upper)))) }
 {
-    put16(out, base)?;
+    put_word(out, base)?;
     put_two(out, word_of(lower), word_of(upper))
 }
 
@@ -141,11 +157,11 @@ fn put_form(out: &mut Bytes, form: &Form) -> Result<(), Memory>
         }
         Form::Set { base } => {
             out.push(5)?;
-            put16(out, *base)
+            put_word(out, *base)
         }
         Form::Pointer { target } => {
             out.push(6)?;
-            put16(out, *target)
+            put_word(out, *target)
         }
         Form::Procedure { parameters, answer } => {
             out.push(7)?;
@@ -160,8 +176,8 @@ fn put_type(out: &mut Bytes, one: &SymType) -> Result<(), Memory>
     requires { written.short_type one.now }
     ensures { OnOk result (out.new ≡ out.old ++ written.type_bytes one.now) }
 {
-    out.push(one.origin)?;
-    put16(out, one.number)?;
+    out.push(one.origin as u8)?;
+    put_word(out, one.number)?;
     put_form(out, &one.form)
 }
 
@@ -190,7 +206,7 @@ fn put_class(out: &mut Bytes, class: &Class) -> Result<(), Memory>
         }
         Class::Scalar { sort, word } => {
             out.push(2)?;
-            put_two(out, *sort, *word)
+            put_two(out, *sort, u32::from(*word))
         }
         Class::Chars { text } => {
             out.push(3)?;
@@ -198,7 +214,7 @@ fn put_class(out: &mut Bytes, class: &Class) -> Result<(), Memory>
         }
         Class::Sort { sort } => {
             out.push(4)?;
-            put16(out, *sort)
+            put_word(out, *sort)
         }
         Class::Variable { sort, offset } => {
             out.push(5)?;
@@ -206,8 +222,8 @@ fn put_class(out: &mut Bytes, class: &Class) -> Result<(), Memory>
         }
         Class::Procedure { sort, number } => {
             out.push(6)?;
-            put16(out, *sort)?;
-            out.push(*number)
+            put_word(out, *sort)?;
+            out.push(*number as u8)
         }
     }
 }
@@ -259,13 +275,21 @@ fn put_file(out: &mut Bytes, file: &SymbolFile) -> Result<(), Memory>
     put_names(out, file.names.as_slice())
 }
 
+/// What is written of a file whose counts, numbers and bounds fit their fields.
+pub fn file_bytes(alloc: Global, file: &SymbolFile) -> Result<Bytes, Memory>
+    requires { written.is_short file.now }
+    ensures { IfOk result (λ b. b ≡ written.file_bytes file.now) }
+{
+    let mut out = Bytes::new(alloc);
+    put_file(&mut out, file)?;
+    Ok(out)
+}
+
 /// The bytes of a symbol file: the one spelling of what it says.
 #[tactic(auto, using(crate::proofs::Spelled::file_is))]
 pub fn write_sym(alloc: Global, file: &SymbolFile) -> Result<Bytes, Memory>
     requires { Fits spec.symbol_file file.now }
     ensures { IfOk result (λ b. b ≡ spelling spec.symbol_file file.now) }
 {
-    let mut out = Bytes::new(alloc);
-    put_file(&mut out, file)?;
-    Ok(out)
+    file_bytes(alloc, file)
 }

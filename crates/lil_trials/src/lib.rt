@@ -12,6 +12,8 @@ mod book;
 #[cfg(test)]
 mod commands;
 #[cfg(test)]
+mod definitions;
+#[cfg(test)]
 mod kernel;
 #[cfg(test)]
 mod mcode;

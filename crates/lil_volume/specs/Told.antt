@@ -15,6 +15,11 @@ FileIs (Some files) name found = found ≡ get files name
 abbrev pub with_file : Option Files → List ℕ → List ℕ → Option Files
 with_file files name content = option_map (λ held. insert held name content) files
 
+-- the files after a list of writes
+abbrev pub with_writes : Option Files → List (List ℕ × List ℕ) → Option Files
+with_writes files [] = files
+with_writes files (x ∷ xs) = with_writes (with_file files x.0 x.1) xs
+
 -- the bytes of a sink after a whole piece
 abbrev pub followed_by : Option (List ℕ) → List ℕ → Option (List ℕ)
 followed_by written piece = option_map (λ bytes. bytes ++ piece) written

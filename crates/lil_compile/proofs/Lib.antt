@@ -1,0 +1,5 @@
+pub mod Fitting
+pub mod Parts
+pub mod Texts
+pub mod Unique
+pub mod Wholes

@@ -1,0 +1,4 @@
+mod Among
+mod Ordered
+mod OwnNames
+mod Told

@@ -1,0 +1,3 @@
+pub mod Iface
+pub mod Laws
+pub mod Listed
