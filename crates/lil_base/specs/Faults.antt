@@ -1,7 +1,7 @@
 -- The faults of source texts: their numbers and names.
 use Rattle.std.specs.Prelude.{ℕ, None, Some, List, [], ◌==◌, if◌then◌else◌, codes}
 use Rattle.lil_base.specs.declared.fault.{Place.Place, SourceFault.SourceFault, FaultKind.FaultKind}
-use Rattle.lil_base.specs.declared.fault.FaultKind.TheVariants.{BadChar, OpenComment, OpenString, BadNumber, NumberTooLarge, NameTooLong, Syntax, EndName, TooNested, Unknown, Twice, NotExported, WrongKind, ExitOutside, ReturnKind, ForVariable, Operands, Assign, ArgCount, VarArgument, NotCallable, NotArray, NotRecord, NotPointer, NoField, SetBase, ResultType, ProcValue, LabelTwice, Opaque, ConstRange, NotConst, ConstArith, EmptyRange, ExprDeep, DataTooLong, TooManyProcs, TextTooLong, ReservedModule, FileName, SymDamaged, BookFull, UnitKind, NotBuilt}
+use Rattle.lil_base.specs.declared.fault.FaultKind.TheVariants.{BadChar, OpenComment, OpenString, BadNumber, NumberTooLarge, NameTooLong, Syntax, EndName, TooNested, Unknown, Twice, NotExported, WrongKind, ExitOutside, ReturnKind, ForVariable, Operands, Assign, ArgCount, VarArgument, NotCallable, NotArray, NotRecord, NotPointer, NoField, SetBase, ResultType, ProcValue, LabelTwice, Opaque, ConstRange, NotConst, ConstArith, EmptyRange, ExprDeep, DataTooLong, TooManyProcs, TooManyImports, TextTooLong, NoSymbol, KeyConflict, SelfImport, NoDefinition, NotConform, NotImplemented, ReservedModule, FileName, SymDamaged, BookFull, UnitKind, NotBuilt}
 
 abbrev pub fault_number : FaultKind → ℕ
 fault_number BadChar = 1
@@ -41,7 +41,14 @@ fault_number EmptyRange = 53
 fault_number ExprDeep = 60
 fault_number DataTooLong = 61
 fault_number TooManyProcs = 62
+fault_number TooManyImports = 63
 fault_number TextTooLong = 65
+fault_number NoSymbol = 70
+fault_number KeyConflict = 71
+fault_number SelfImport = 72
+fault_number NoDefinition = 73
+fault_number NotConform = 74
+fault_number NotImplemented = 75
 fault_number ReservedModule = 76
 fault_number FileName = 77
 fault_number SymDamaged = 78
@@ -56,6 +63,10 @@ fault n p = record { number = n; place = p; about = None; first = 0; second = 0 
 -- the fault of a number at a place, about a module or another file of the volume
 abbrev pub fault_about : ℕ → Place → List ℕ → SourceFault
 fault_about n p name = record { number = n; place = p; about = Some name; first = 0; second = 0 }
+
+-- 71 KeyConflict, about a module, with the two keys
+abbrev pub key_conflict : Place → List ℕ → ℕ → ℕ → SourceFault
+key_conflict p name first second = record { number = 71; place = p; about = Some name; first = first; second = second }
 
 -- 64 CodeTooLong, with the number of bytes
 abbrev pub code_too_long : Place → ℕ → SourceFault
@@ -101,12 +112,19 @@ fault_name n =
     else (if n == 60 then codes "ExprDeep"
     else (if n == 61 then codes "DataTooLong"
     else (if n == 62 then codes "TooManyProcs"
+    else (if n == 63 then codes "TooManyImports"
     else (if n == 64 then codes "CodeTooLong"
     else (if n == 65 then codes "TextTooLong"
+    else (if n == 70 then codes "NoSymbol"
+    else (if n == 71 then codes "KeyConflict"
+    else (if n == 72 then codes "SelfImport"
+    else (if n == 73 then codes "NoDefinition"
+    else (if n == 74 then codes "NotConform"
+    else (if n == 75 then codes "NotImplemented"
     else (if n == 76 then codes "ReservedModule"
     else (if n == 77 then codes "FileName"
     else (if n == 78 then codes "SymDamaged"
     else (if n == 79 then codes "BookFull"
     else (if n == 80 then codes "UnitKind"
     else (if n == 90 then codes "NotBuilt"
-    else []))))))))))))))))))))))))))))))))))))))))))))
+    else [])))))))))))))))))))))))))))))))))))))))))))))))))))

@@ -1,5 +1,5 @@
 ghost use Rattle.std.specs.Prelude.{◌≡◌};
-ghost use Rattle.lil_base.specs.Faults.{fault, fault_about, fault_number, fault_name, code_too_long};
+ghost use Rattle.lil_base.specs.Faults.{fault, fault_about, fault_number, fault_name, code_too_long, key_conflict};
 
 use crate::Name;
 use thiserror::Error;
@@ -103,8 +103,22 @@ pub enum FaultKind {
     DataTooLong = 61,
     /// The module has a 251st procedure.
     TooManyProcs = 62,
+    /// A unit imports a 61st module that isn't resident.
+    TooManyImports = 63,
     /// The text has more than 262,144 bytes.
     TextTooLong = 65,
+    /// A module that is imported has no symbol file.
+    NoSymbol = 70,
+    /// A module is met with two keys.
+    KeyConflict = 71,
+    /// A unit imports itself, or a definition rests on its own name.
+    SelfImport = 72,
+    /// An implementation has no symbol file of its own.
+    NoDefinition = 73,
+    /// A heading differs from that of the definition, or an opaque type is no pointer.
+    NotConform = 74,
+    /// A procedure or opaque type of the definition isn't declared.
+    NotImplemented = 75,
     /// The unit has the name of a resident module.
     ReservedModule = 76,
     /// The unit's name isn't that of its file.
@@ -152,6 +166,19 @@ impl SourceFault {
             about: Some(name),
             first: 0,
             second: 0,
+        }
+    }
+
+    /// Fault 71, at a place, about a module that is met with two keys, in this order.
+    pub fn key_conflict(place: Place, name: Name, first: Key, second: Key) -> SourceFault
+        ensures { result ≡ key_conflict place name first.0 second.0 }
+    {
+        SourceFault {
+            number: 71,
+            place,
+            about: Some(name),
+            first: first.0,
+            second: second.0,
         }
     }
 
@@ -210,8 +237,15 @@ impl SourceFault {
             60 => b"ExprDeep",
             61 => b"DataTooLong",
             62 => b"TooManyProcs",
+            63 => b"TooManyImports",
             64 => b"CodeTooLong",
             65 => b"TextTooLong",
+            70 => b"NoSymbol",
+            71 => b"KeyConflict",
+            72 => b"SelfImport",
+            73 => b"NoDefinition",
+            74 => b"NotConform",
+            75 => b"NotImplemented",
             76 => b"ReservedModule",
             77 => b"FileName",
             78 => b"SymDamaged",

@@ -27,6 +27,7 @@ is_nothing _ = false
 -- a name whose declaration has a fault isn't asked for
 abbrev pub is_other_thing : Thing → Bool
 is_other_thing (t.Variable v) = false
+is_other_thing (t.ExternalVariable v) = false
 is_other_thing t.Broken = false
 is_other_thing _ = true
 
@@ -40,9 +41,10 @@ is_plain _ = false
 
 abbrev pub is_unfit_thing : Table → Thing → Bool
 is_unfit_thing ts (t.Variable v) = not (is_plain v.mode) || not (is_ordinal ts (k.Of v.sort))
+is_unfit_thing ts (t.ExternalVariable v) = true
 is_unfit_thing ts _ = false
 
--- a field, a parameter, or a variable that isn't ordinal
+-- a field, a parameter, a variable of another module, or one that isn't ordinal
 abbrev pub is_unfit : Table → Looked → Bool
 is_unfit ts l.Nothing = false
 is_unfit ts (l.Field at n s) = true

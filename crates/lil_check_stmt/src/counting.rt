@@ -109,6 +109,7 @@ fn is_other_thing(of: Thing) -> bool
 {
     match of {
         Thing::Variable(_) => false,
+        Thing::ExternalVariable(_) => false,
         Thing::Broken => false,
         _ => true,
     }
@@ -140,6 +141,7 @@ fn is_unfit_thing(t: &TypeTable, of: Thing) -> bool
         Thing::Variable(variable) => {
             !is_plain(variable.mode) || !is_ordinal(t, Kind::Of(variable.sort))
         }
+        Thing::ExternalVariable(_) => true,
         _ => false,
     }
 }

@@ -9,7 +9,7 @@ use Rattle.lil_resolved.specs.Resolved.{Resolved}
 use Rattle.lil_scope.specs.declared.env.Env.{Env}
 use Rattle.lil_check_decl.specs.Decls.{decls_mean}
 use Rattle.lil_check_stmt.specs.{Stmts.bodies_mean, declared.stmt.Stated.Stated}
-use Rattle.lil_interfaces.specs.{declared.{surface.Interface.Interface, importing.Imported.Imported}, Interfaces.residents, Imports.{nothing_imported, imports_mean, exports_mean}}
+use Rattle.lil_interfaces.specs.{declared.{surface.Interface.Interface, modules.Imported.Imported}, Interfaces.residents, Imports.{nothing_imported, imports_mean, exports_mean}}
 use Rattle.lil_check_unit.specs.{Modules.{in_no_with, assembled}, Units.{first_of, declared, stated, module_of, worst, late_fault, data_fault, names_fault, unit_fault, imports_fault, program_fault, naming_rows, missing_row, missing_names, missing_by, missing_rows, data_rows, HasInterfaces}}
 
 module _ (u : Tree) (is : List Interface) where

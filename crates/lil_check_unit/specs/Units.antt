@@ -12,7 +12,7 @@ use Rattle.lil_scope.specs.{declared.env.Env.Env, Names.{block_at, same}}
 use Rattle.lil_layout.specs.Data.{data_words}
 use Rattle.lil_check_decl.specs.Decls.{decls_mean}
 use Rattle.lil_check_stmt.specs.{Stmts.bodies_mean, declared.stmt.Stated.Stated}
-use Rattle.lil_interfaces.specs.{declared.{surface.Interface.Interface, importing.Imported.Imported}, Interfaces.{named, residents}, Imports.{nothing_imported, imports_mean, exports_mean}}
+use Rattle.lil_interfaces.specs.{declared.{surface.Interface.Interface, modules.Imported.Imported}, Interfaces.{named, residents}, Imports.{nothing_imported, imports_mean, exports_mean}}
 use Rattle.lil_check_unit.specs.Modules.{in_no_with, assembled}
 
 -- ---- classes: the first one that has a fault speaks

@@ -1,9 +1,8 @@
-ghost use Rattle.std.specs.Prelude.{◌≡◌, length, IfOk, Err, None, Some};
+ghost use Rattle.std.specs.Prelude.{◌≡◌, IfOk, Err, None, Some};
 ghost use Rattle.std.specs.List.{list_any};
 ghost use Rattle.lil_base.specs.declared.fault.SourceFault.{SourceFault as Told};
 ghost use Rattle.lil_text.specs.declared.stop.ReadStop.TheVariants as stop;
 ghost use Rattle.lil_report.specs.{declared.report.Fault.Fault as Found, Least.{now_of, late_of, worse}, Told.{Said, tell}};
-ghost use Rattle.lil_scope.specs.Names.{block_at};
 ghost use Rattle.lil_check_stmt.specs.Stmts.{bodies_mean};
 ghost use Rattle.lil_interfaces.specs.Imports.{nothing_imported};
 ghost use Rattle.lil_check_unit.specs.Modules.{in_no_with};
@@ -12,10 +11,13 @@ ghost use Rattle.lil_check_unit.specs.Units as spec;
 use lil_base::{FaultKind, Items, Memory, SourceFault, beside};
 use lil_check_decl::declarations;
 use lil_check_stmt::{Stated, bodies};
-use lil_interfaces::{Entered, Imported, Interfaces, exports, imports, start};
+use lil_format::Wanted;
+use lil_interfaces::{
+    Enumerations, Imported, Interfaces, Origins, Sources, exports, imports, start,
+};
 use lil_language::Unit;
 use lil_report::{Fault, Report, worse};
-use lil_scope::{Blocks, Env, Withs};
+use lil_scope::{Env, Withs};
 use lil_text::ReadStop;
 use lil_types::{TypeEntry, TypeForm};
 use std::alloc::Global;
@@ -34,25 +36,20 @@ fn nothing_imported(alloc: Global) -> Result<Imported, Memory>
     Ok(Imported {
         env: start(alloc)?,
         modules: Items::new(alloc),
-        taken: Items::new(alloc),
+        taken: Sources::new(alloc),
+        rests: Items::new(alloc),
+        origins: Origins::new(alloc),
+        enumerations: Enumerations::new(alloc),
     })
 }
 
-/// What a unit declares and imports: the modules, each once, and how many names of the unit's block are imported. Those stand
-/// before the others.
+/// What a unit declares and imports: the modules on which it rests, each once, and how many names of the unit's block are
+/// imported. Those stand before the others.
 #[derive(Drop)]
 pub struct Declared {
     pub env: Env,
-    pub modules: Items<Entered>,
+    pub rests: Items<Wanted>,
     pub imported: usize,
-}
-
-/// How many names a block has.
-fn names_in(alloc: Global, blocks: &Blocks, number: usize) -> Result<usize, Memory>
-    ensures { IfOk result (λ n. n ≡ length (block_at blocks.now number)) }
-{
-    let names = blocks.all(alloc, number)?;
-    Ok(names.len())
 }
 
 /// All that a unit imports and declares, where nothing is imported yet, and how many names of its block are imported.
@@ -65,12 +62,12 @@ fn declare(
 ) -> Result<usize, Memory>
     requires { so_far.old ≡ nothing_imported }
     ensures said { IfOk result (λ n. Said (spec.declared interfaces.now u.now) report.old so_far.new.env report.new) }
-    ensures modules { IfOk result (λ n. so_far.new.modules ≡ (spec.brought interfaces.now u.now).modules) }
+    ensures rests { IfOk result (λ n. so_far.new.rests ≡ (spec.brought interfaces.now u.now).rests) }
     ensures imported { IfOk result (λ n. n ≡ spec.imported_names interfaces.now u.now) }
 {
     imports(alloc, interfaces, so_far, report, u.head.imports.as_slice())?;
     let scopes = &so_far.env.scopes;
-    let imported = names_in(alloc, &scopes.blocks, scopes.inner)?;
+    let imported = scopes.blocks.len_of(scopes.inner);
     declarations(alloc, &mut so_far.env, report, &u.decls)?;
     exports(&so_far.taken, &so_far.env, report, &u.head.exports);
     Ok(imported)
@@ -84,7 +81,7 @@ fn declare_all(
     report: &mut Report,
 ) -> Result<Declared, Memory>
     ensures said { IfOk result (λ d. Said (spec.declared interfaces.now u.now) report.old d.env report.new) }
-    ensures modules { IfOk result (λ d. d.modules ≡ (spec.brought interfaces.now u.now).modules) }
+    ensures rests { IfOk result (λ d. d.rests ≡ (spec.brought interfaces.now u.now).rests) }
     ensures imported { IfOk result (λ d. d.imported ≡ spec.imported_names interfaces.now u.now) }
 {
     let mut so_far = nothing_imported(alloc)?;
@@ -92,7 +89,7 @@ fn declare_all(
     let (so_far, imported) = beside(so_far, outcome)?;
     Ok(Declared {
         env: so_far.env,
-        modules: so_far.modules,
+        rests: so_far.rests,
         imported,
     })
 }
@@ -205,7 +202,7 @@ pub(crate) fn check_parts(
 /// has an interface.
 pub fn check_names(alloc: Global, u: &Unit, interfaces: &Interfaces) -> Result<Declared, ReadStop>
     requires imported { spec.HasInterfaces interfaces.now u.now }
-    ensures right { IfOk result (λ d. (d.env ≡ (spec.declared interfaces.now u.now).0) × (d.modules ≡ (spec.brought interfaces.now u.now).modules)
+    ensures right { IfOk result (λ d. (d.env ≡ (spec.declared interfaces.now u.now).0) × (d.rests ≡ (spec.brought interfaces.now u.now).rests)
         × (d.imported ≡ spec.imported_names interfaces.now u.now) × (spec.names_worst u.now interfaces.now ≡ None)) }
     ensures wrong { (f : Told) → result ≡ Err (stop.Fault f) → (g : Found) × (spec.names_worst u.now interfaces.now ≡ Some g) × (f ≡ spec.told g) }
     ensures least { spec.Speaks (spec.ClassesOfNames u.now interfaces.now) (spec.names_worst u.now interfaces.now) }

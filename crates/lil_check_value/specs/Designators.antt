@@ -2,7 +2,7 @@
 use Rattle.std.specs.Prelude.{ℕ, nat_lt, Bool, true, false, List, [], ◌∷◌, slice_get, Option, Some, None, if◌then◌else◌, ◌==◌, is_none, not, ◌&&◌}
 use Rattle.lil_base.specs.declared.fault.{Place.Place, FaultKind.{FaultKind, TheVariants.{WrongKind, ProcValue, Unknown, NotExported, Assign, NotArray, NotRecord, NotPointer, NoField, Opaque, ConstRange, ExprDeep, NotBuilt}}}
 use Rattle.lil_report.specs.Told.{Row, row}
-use Rattle.lil_scope.specs.{declared.{thing.{Kind.Kind, Routine.Routine, Thing.Thing, Variable.Variable}, env.Env.Env}, Names.{member, waits_for, levels_out}}
+use Rattle.lil_scope.specs.{declared.{thing.{ExternalProcedure.ExternalProcedure, Kind.Kind, Routine.Routine, Thing.Thing, Variable.Variable}, env.Env.Env}, Names.{member, waits_for, levels_out}}
 use Rattle.lil_scope.specs.declared.thing.Kind.TheVariants as k
 use Rattle.lil_scope.specs.declared.thing.Thing.TheVariants as t
 use Rattle.lil_kinds.specs.{declared.{found.{Form.Form, Found.Found, Located.Located, Standing.Standing}, forms.ArrayParts.ArrayParts}, Forms.{array_parts, field, is_record, target, is_opaque}, Kinds.{assignable, misses}}
@@ -51,9 +51,10 @@ whole_part p q f kind = record { first = p; name = q; form = f; is_whole = true;
 abbrev pub named : Place → Place → Thing → Reached
 named p q x = reached.Other (record { first = p; name = q; thing = x })
 
--- no value where the declaration of the name has a fault
+-- no value where the declaration of the name has a fault; a variable of another module has no form
 abbrev pub thing_reached : Env → Place → Place → Thing → Option Reached
 thing_reached e p q (t.Variable v) = Some (reached.Part (whole_part p q (form_of e v) (variable_kind v)))
+thing_reached e p q (t.ExternalVariable v) = Some (reached.Part (whole_part p q form.Nothing (k.Of v.sort)))
 thing_reached e p q t.Hidden = None
 thing_reached e p q t.Broken = None
 thing_reached e p q (t.Constant c) = Some (named p q (t.Constant c))
@@ -61,6 +62,7 @@ thing_reached e p q (t.Named n c) = Some (named p q (t.Named n c))
 thing_reached e p q t.Nil = Some (named p q t.Nil)
 thing_reached e p q (t.Type s) = Some (named p q (t.Type s))
 thing_reached e p q (t.Procedure x) = Some (named p q (t.Procedure x))
+thing_reached e p q (t.ExternalProcedure x) = Some (named p q (t.ExternalProcedure x))
 thing_reached e p q (t.Resident x s) = Some (named p q (t.Resident x s))
 thing_reached e p q (t.Standard x) = Some (named p q (t.Standard x))
 thing_reached e p q (t.Module b) = Some (named p q (t.Module b))
@@ -257,6 +259,10 @@ no_value _ = false
 abbrev pub routine_found : Place → Routine → Option Found
 routine_found p x = if nat_lt 1 x.level then None else Some (plain_found p (form.Routine x.number) (k.Routine x.sort))
 
+-- a procedure of another module has no form
+abbrev pub external_found : Place → ExternalProcedure → Found
+external_found p x = plain_found p form.Nothing (k.Routine x.sort)
+
 -- the text of a constant by its number among those of all constants
 abbrev pub text_form : Option (List ℕ) → Form
 text_form None = form.Nothing
@@ -267,6 +273,7 @@ thing_found texts p (t.Constant kind) = Some (constant_found p kind)
 thing_found texts p (t.Named n c) = Some (plain_found p (text_form (slice_get texts n)) (k.Chars c))
 thing_found texts p t.Nil = Some (constant_found p k.Nil)
 thing_found texts p (t.Procedure x) = routine_found p x
+thing_found texts p (t.ExternalProcedure x) = Some (external_found p x)
 thing_found texts p _ = None
 
 unfoldable pub named_value : List (List ℕ) → Named → Meaning
@@ -298,6 +305,7 @@ part_callee types _ a = callee.Other
 
 abbrev pub thing_callee : Env → Thing → Option Callee
 thing_callee e (t.Procedure x) = Some (callee.Procedure x.sort x.number (levels_out e x.level))
+thing_callee e (t.ExternalProcedure x) = Some (callee.Variable x.sort 1 None)
 thing_callee e (t.Resident x s) = Some (callee.Resident x s)
 thing_callee e (t.Standard x) = Some (callee.Standard x)
 thing_callee e (t.Constant kind) = Some callee.Other

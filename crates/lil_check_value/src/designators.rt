@@ -97,6 +97,12 @@ fn thing_reached(
             form_of(alloc, env, of),
             variable_kind(of),
         ))),
+        Thing::ExternalVariable(of) => Some(Reached::Part(whole_part(
+            first,
+            name,
+            Form::Nothing,
+            Kind::Of(of.sort),
+        ))),
         Thing::Hidden => None,
         Thing::Broken => None,
         _ => Some(Reached::Other(Named { first, name, thing })),

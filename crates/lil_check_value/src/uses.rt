@@ -9,7 +9,7 @@ use lil_forms::own;
 use lil_kinds::{Form, Found};
 use lil_operators::{constant_found, plain_found};
 use lil_report::Report;
-use lil_scope::{Env, Kind, Routine, Thing, levels_out};
+use lil_scope::{Env, ExternalProcedure, Kind, Routine, Thing, levels_out};
 use lil_types::{TypeId, TypeTable};
 
 fn part_found(of: Part) -> Found
@@ -47,6 +47,13 @@ fn routine_found(first: Place, of: Routine) -> Option<Found>
     }
 }
 
+/// A procedure of another module has no form.
+fn external_found(first: Place, of: ExternalProcedure) -> Found
+    ensures { result ≡ spec.external_found first of }
+{
+    plain_found(first, Form::Nothing, Kind::Routine(of.sort))
+}
+
 /// The text of a constant by its number among those of all constants.
 fn text_form(texts: &Items<Shared<Text>>, number: usize) -> Result<Form, Memory>
     ensures { IfOk result (λ f. f ≡ spec.text_form (slice_get texts.now number)) }
@@ -72,6 +79,7 @@ fn thing_found(
         }
         Thing::Nil => Ok(Some(constant_found(first, Kind::Nil))),
         Thing::Procedure(routine) => Ok(routine_found(first, routine)),
+        Thing::ExternalProcedure(of) => Ok(Some(external_found(first, of))),
         _ => Ok(None),
     }
 }
@@ -143,6 +151,7 @@ fn thing_callee(env: &Env, of: Thing) -> Option<Callee>
             let levels = levels_out(env, routine.level);
             Some(Callee::Procedure(routine.sort, routine.number, levels))
         }
+        Thing::ExternalProcedure(of) => Some(Callee::Variable(of.sort, 1, None)),
         Thing::Resident(resident, sort) => Some(Callee::Resident(resident, sort)),
         Thing::Standard(standard) => Some(Callee::Standard(standard)),
         Thing::Constant(_) => Some(Callee::Other),

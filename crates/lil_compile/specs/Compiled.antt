@@ -53,11 +53,11 @@ abbrev pub IsChecked : List ℕ → Tree → Type 0
 IsChecked x u = (naming x u ≡ None) × (missing u ≡ None)
 
 abbrev pub OfInterface : List ℕ → Tree → Book → SourceFault → Type 0
-OfInterface x u b f = IsChecked x u × HasInterfaceFault u (next_key b) f
+OfInterface x u b f = IsChecked x u × HasInterfaceFault u residents (next_key b) f
 
 -- 65,535 entries are in the book
 abbrev pub OfRoom : List ℕ → Tree → Book → SourceFault → Type 0
-OfRoom x u b f = IsChecked x u × ((s : SymbolFile) × IsInterface u (next_key b) s × (65535 ≤ length b.entries) × (f ≡ full u))
+OfRoom x u b f = IsChecked x u × ((s : SymbolFile) × IsInterface u residents (next_key b) s × (65535 ≤ length b.entries) × (f ≡ full u))
 
 abbrev pub OfBook : List ℕ → Tree → Book → SourceFault → Type 0
 OfBook x u b f = OfImports x u b f ⊎ (OfInterface x u b f ⊎ OfRoom x u b f)
@@ -91,6 +91,6 @@ pub record IsCompiled (x text : List ℕ) (found : Option (List ℕ)) (c : Compi
   pub entries : Book
   pub there : IsBook found entries
   pub symbols : SymbolFile
-  pub interface : IsInterface unit (next_key entries) symbols
+  pub interface : IsInterface unit residents (next_key entries) symbols
   pub room : length entries.entries < 65535
   pub is : c ≡ compiled x text entries symbols

@@ -9,6 +9,7 @@ use Rattle.lil_volume.specs.{declared.outside.VolumeError.VolumeError, Causes.Ro
 use Rattle.lil_volume.specs.declared.outside.VolumeError.TheVariants as volume
 use Rattle.lil_symfile.specs.declared.tree.SymbolFile.{SymbolFile}
 use Rattle.lil_book.specs.declared.book.Book.{Book}
+use Rattle.lil_interfaces.specs.Interfaces.{residents}
 use Rattle.lil_iface.specs.Iface.{IsInterface}
 use Rattle.lil_compile.specs.{declared.{prepare.Prepared.Prepared, stop.CompileStop.CompileStop}, Compiled.{Compiled, compiled, next_key, IsBook, IsChecked, IsCompiled, HasUnitFault, HasDefinitionFault}, Command.gives_way}
 use Rattle.lil_compile.specs.declared.stop.CompileStop.TheVariants as why
@@ -31,7 +32,7 @@ compiled_as x p = record { key = p.key.0; writes = (book_file, p.book) ∷ (file
 pub record IsOver (x text : List ℕ) (u : Tree) (b : Book) (c : Compiled) : Type 0 where
   pub checked : IsChecked x u
   pub symbols : SymbolFile
-  pub interface : IsInterface u (next_key b) symbols
+  pub interface : IsInterface u residents (next_key b) symbols
   pub room : length b.entries < 65535
   pub is : c ≡ compiled x text b symbols
 

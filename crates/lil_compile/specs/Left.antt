@@ -7,6 +7,7 @@ use Rattle.lil_volume.specs.Told.{Files}
 use Rattle.lil_format.specs.Format.{spelling}
 use Rattle.lil_symfile.specs.{declared.tree.SymbolFile.SymbolFile, Symbol.symbol_file}
 use Rattle.lil_book.specs.{declared.book.{Book.Book, Entry.Entry}, Book.entry_with}
+use Rattle.lil_interfaces.specs.Interfaces.{residents}
 use Rattle.lil_iface.specs.Iface.{IsInterface}
 use Rattle.lil_compile.specs.Compiled.{IsBook, IsChecked}
 
@@ -15,7 +16,7 @@ pub record IsOf (key : ℕ) (e : Entry) (s : SymbolFile) : Type 0 where
   pub unit : Tree
   pub read : Reads e.text unit
   pub checked : IsChecked e.name unit
-  pub interface : IsInterface unit key s
+  pub interface : IsInterface unit residents key s
   pub rests : e.rests ≡ s.rests
 
 abbrev pub AreEntries : List Entry → Type 0

@@ -12,6 +12,7 @@ use Rattle.lil_volume.specs.Told.{Files, with_writes}
 use Rattle.lil_format.specs.{Format.{Fits, reads, spelling}, FormatLaws.file_only, Reading.{whole as whole_file}}
 use Rattle.lil_symfile.specs.{declared.tree.SymbolFile.SymbolFile, Symbol.symbol_file, Laws.rests_fit}
 use Rattle.lil_book.specs.{declared.book.{Book.Book, Entry.Entry}, Book.{book, no_entries, entry_with}, Laws.{no_entries_fits, with_entry, with_entry_fits, entry_fits, new_entry, old_entries}}
+use Rattle.lil_interfaces.specs.Interfaces.{residents}
 use Rattle.lil_iface.specs.Iface.{IsInterface}
 use Rattle.lil_compile.specs.{Compiled.{Compiled, compiled, entry_of, next_key, IsBook, IsChecked}, Command.IsWritten, Left.{AreEntries, IsOf, IsSymbols, Left}}
 
@@ -129,7 +130,7 @@ left_other m n same_book same_symbols left = record {
 }
 
 module _ (x text : List ℕ) (named : is_name x ≡ true) (m : Files) (left : Left m) (u : Tree) (read : Reads text u) (checked : IsChecked x u) (b : Book) (there : IsBook (get m book_file) b) (s : SymbolFile)
-    (interface : IsInterface u (next_key b) s) (room : length b.entries < 65535) where
+    (interface : IsInterface u residents (next_key b) s) (room : length b.entries < 65535) where
   abbrev entry : Entry
   entry = entry_of x text s
 

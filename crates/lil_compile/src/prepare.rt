@@ -3,6 +3,7 @@ ghost use Rattle.lil_base.specs.declared.fault.SourceFault.{SourceFault as Told}
 ghost use Rattle.lil_text.specs.declared.stop.ReadStop.TheVariants as stop;
 ghost use Rattle.lil_format.specs.Format.{Fits};
 ghost use Rattle.lil_book.specs.Book.{book};
+ghost use Rattle.lil_interfaces.specs.Interfaces.{residents};
 ghost use Rattle.lil_iface.specs.Iface.{IsInterface};
 ghost use Rattle.lil_compile.specs.Compiled as spec;
 ghost use Rattle.lil_compile.specs.Layers.{compiled_as, IsOver, IsOverFound};
@@ -77,7 +78,7 @@ fn with_symbols(
     requires checked { spec.IsChecked x.now u.now }
     requires short { length text < 4294967296 }
     requires fits { Fits book of }
-    requires interface { IsInterface u.now (spec.next_key of) symbols }
+    requires interface { IsInterface u.now residents (spec.next_key of) symbols }
     ensures right { IfOk result (λ p. IsOver x.now text u.now of (compiled_as x.now p)) }
     ensures wrong { (f : Told) → result ≡ Err (stop.Fault f) → spec.OfRoom x.now u.now of f }
 {

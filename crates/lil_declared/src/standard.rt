@@ -13,6 +13,16 @@ pub enum Resident {
     Deallocate,
     NewProcess,
     Transfer,
+    Lookup,
+    CloseFile,
+    Reset,
+    ReadChar,
+    WriteChar,
+    Call,
+    OpenChannel,
+    PutWord,
+    GetWord,
+    CloseChannel,
 }
 
 /// A standard procedure, or a standard function (Programming in Modula-2, Standard procedures).

@@ -186,11 +186,40 @@ request_of resident.Allocate = None
 request_of resident.Deallocate = None
 request_of resident.NewProcess = None
 request_of resident.Transfer = None
+request_of resident.Lookup = None
+request_of resident.CloseFile = None
+request_of resident.Reset = None
+request_of resident.ReadChar = None
+request_of resident.WriteChar = None
+request_of resident.Call = None
+request_of resident.OpenChannel = None
+request_of resident.PutWord = None
+request_of resident.GetWord = None
+request_of resident.CloseChannel = None
 
 abbrev pub allocation_of : Resident → Option Allocation
 allocation_of resident.Allocate = Some Takes
 allocation_of resident.Deallocate = Some GivesBack
-allocation_of _ = None
+allocation_of resident.Read = None
+allocation_of resident.Write = None
+allocation_of resident.WriteString = None
+allocation_of resident.WriteLn = None
+allocation_of resident.WriteCard = None
+allocation_of resident.WriteInt = None
+allocation_of resident.WriteOct = None
+allocation_of resident.WriteHex = None
+allocation_of resident.NewProcess = None
+allocation_of resident.Transfer = None
+allocation_of resident.Lookup = None
+allocation_of resident.CloseFile = None
+allocation_of resident.Reset = None
+allocation_of resident.ReadChar = None
+allocation_of resident.WriteChar = None
+allocation_of resident.Call = None
+allocation_of resident.OpenChannel = None
+allocation_of resident.PutWord = None
+allocation_of resident.GetWord = None
+allocation_of resident.CloseChannel = None
 
 -- ---- calls
 abbrev pub request : Option requests.Request → List RArgument → Option RStmt

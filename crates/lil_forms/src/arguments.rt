@@ -166,7 +166,17 @@ fn request_of(of: Resident) -> Option<Request>
         | Resident::Allocate
         | Resident::Deallocate
         | Resident::NewProcess
-        | Resident::Transfer => None,
+        | Resident::Transfer
+        | Resident::Lookup
+        | Resident::CloseFile
+        | Resident::Reset
+        | Resident::ReadChar
+        | Resident::WriteChar
+        | Resident::Call
+        | Resident::OpenChannel
+        | Resident::PutWord
+        | Resident::GetWord
+        | Resident::CloseChannel => None,
         Resident::Write => Some(Request::Write),
         Resident::WriteString => Some(Request::WriteString),
         Resident::WriteLn => Some(Request::WriteLn),
@@ -183,7 +193,26 @@ fn allocation_of(of: Resident) -> Option<Allocation>
     match of {
         Resident::Allocate => Some(Allocation::Takes),
         Resident::Deallocate => Some(Allocation::GivesBack),
-        _ => None,
+        Resident::Read
+        | Resident::Write
+        | Resident::WriteString
+        | Resident::WriteLn
+        | Resident::WriteCard
+        | Resident::WriteInt
+        | Resident::WriteOct
+        | Resident::WriteHex
+        | Resident::NewProcess
+        | Resident::Transfer
+        | Resident::Lookup
+        | Resident::CloseFile
+        | Resident::Reset
+        | Resident::ReadChar
+        | Resident::WriteChar
+        | Resident::Call
+        | Resident::OpenChannel
+        | Resident::PutWord
+        | Resident::GetWord
+        | Resident::CloseChannel => None,
     }
 }
 

@@ -1,4 +1,5 @@
 mod Among
+mod Mapped
 mod Ordered
 mod OwnNames
 mod Told

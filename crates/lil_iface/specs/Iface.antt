@@ -12,17 +12,14 @@ use Rattle.lil_scope.specs.{declared.{env.Env.Env, thing.{Bound.Bound, Kind.Kind
 use Rattle.lil_scope.specs.declared.thing.Kind.TheVariants as k
 use Rattle.lil_scope.specs.declared.thing.Thing.TheVariants as t
 use Rattle.lil_layout.specs.Data.{variable_words}
-use Rattle.lil_interfaces.specs.{declared.importing.Entered.Entered, Interfaces.residents}
+use Rattle.lil_interfaces.specs.declared.surface.Interface.{Interface}
+use Rattle.lil_report.specs.declared.report.Fault.{Fault as Checked}
 use Rattle.lil_check_unit.specs.Units.{declared, brought, imported_names, names_worst, told}
 use Rattle.lil_format.specs.{declared.name.Wanted.Wanted, Format.Fits}
 use Rattle.lil_symfile.specs.declared.tree.{Class.Class, Form.Form, Field.{Field as SymField}, Parameter.{Parameter as SymParameter}, SymType.SymType, SymName.SymName, SymbolFile.SymbolFile}
 use Rattle.lil_symfile.specs.declared.tree.Class.TheVariants as c
 use Rattle.lil_symfile.specs.declared.tree.Form.TheVariants as s
 use Rattle.lil_symfile.specs.Symbol.{symbol_file}
-
--- ---- the modules on which it rests: resident ones have key 0
-abbrev pub rest_of : Entered → Wanted
-rest_of m = record { name = m.name; key = record { 0 = 0 } }
 
 -- ---- types. What an opaque type is in its implementation isn't told
 abbrev pub field_of : Field → SymField
@@ -78,6 +75,8 @@ class_of e os t.Nil = None
 class_of e os (t.Variable v) = variable_class v.sort (slice_get os v.number)
 class_of e os (t.Type sort) = Some (c.Sort sort)
 class_of e os (t.Procedure p) = Some (c.Procedure p.sort (min (p.number + 1) 4294967295))
+class_of e os (t.ExternalVariable v) = None
+class_of e os (t.ExternalProcedure p) = None
 class_of e os (t.Resident r sort) = None
 class_of e os (t.Standard standard) = None
 class_of e os (t.Module block) = None
@@ -113,42 +112,44 @@ abbrev pub name_of : Env → List ℕ → Option (List Ident) → Bound → List
 name_of e os exports b = name_by (is_shown exports b.name) b.name (class_of e os b.entry.thing)
 
 -- ---- the symbol file of a definition under a key
-abbrev pub symbols_by : Tree → ℕ → List Entered → Env → ℕ → SymbolFile
-symbols_by u key modules e imported = record {
+abbrev pub symbols_by : Tree → ℕ → List Wanted → Env → ℕ → SymbolFile
+symbols_by u key rests e imported = record {
   name = u.head.name.name;
   key = record { 0 = key };
-  rests = map rest_of modules;
+  rests = rests;
   types = map type_of e.types;
   names = flat_map (name_of e (offsets e) u.head.exports) (own_names imported e);
 }
-
-unfoldable pub symbols_of : Tree → ℕ → SymbolFile
-symbols_of u key = symbols_by u key (brought residents u).modules (declared residents u).0 (imported_names residents u)
-
--- the words of its variables
-abbrev pub variables_words : Tree → ℕ
-variables_words u = sum_by (variable_words (declared residents u).0.types) (declared residents u).0.variables
 
 -- ---- 61 DataTooLong, at the unit's name
 abbrev pub too_long : Tree → SourceFault
 too_long u = fault (fault_number DataTooLong) u.head.name.place
 
--- a fault of its names and declarations; else counts that a symbol file has no room for; else more than 32,000 words of variables
-abbrev pub OfNames : Tree → SourceFault → Type 0
-OfNames u f = (g : Rattle.lil_report.specs.declared.report.Fault.Fault) × (names_worst u residents ≡ Some g) × (f ≡ told g)
+-- ---- where these are the interfaces of what it imports
+module _ (u : Tree) (known : List Interface) where
+  unfoldable pub symbols_of : ℕ → SymbolFile
+  symbols_of key = symbols_by u key (brought known u).rests (declared known u).0 (imported_names known u)
 
-abbrev pub OfCounts : Tree → ℕ → SourceFault → Type 0
-OfCounts u key f = (names_worst u residents ≡ None) × (Fits symbol_file (symbols_of u key) → ⊥) × (f ≡ too_long u)
+  -- the words of its variables
+  abbrev pub variables_words : ℕ
+  variables_words = sum_by (variable_words (declared known u).0.types) (declared known u).0.variables
 
-abbrev pub OfWords : Tree → ℕ → SourceFault → Type 0
-OfWords u key f = (names_worst u residents ≡ None) × Fits symbol_file (symbols_of u key) × (nat_lt 32000 (variables_words u) ≡ true) × (f ≡ too_long u)
+  -- a fault of its names and declarations; else counts that a symbol file has no room for; else more than 32,000 words of variables
+  abbrev pub OfNames : SourceFault → Type 0
+  OfNames f = (g : Checked) × (names_worst u known ≡ Some g) × (f ≡ told g)
 
-abbrev pub HasInterfaceFault : Tree → ℕ → SourceFault → Type 0
-HasInterfaceFault u key f = OfNames u f ⊎ (OfCounts u key f ⊎ OfWords u key f)
+  abbrev pub OfCounts : ℕ → SourceFault → Type 0
+  OfCounts key f = (names_worst u known ≡ None) × (Fits symbol_file (symbols_of key) → ⊥) × (f ≡ too_long u)
 
--- the symbol file of a definition that has no fault
-pub record IsInterface (u : Tree) (key : ℕ) (s : SymbolFile) : Type 0 where
-  pub right : names_worst u residents ≡ None
-  pub is : s ≡ symbols_of u key
-  pub spelled : Fits symbol_file s
-  pub words : nat_lt 32000 (variables_words u) ≡ false
+  abbrev pub OfWords : ℕ → SourceFault → Type 0
+  OfWords key f = (names_worst u known ≡ None) × Fits symbol_file (symbols_of key) × (nat_lt 32000 variables_words ≡ true) × (f ≡ too_long u)
+
+  abbrev pub HasInterfaceFault : ℕ → SourceFault → Type 0
+  HasInterfaceFault key f = OfNames f ⊎ (OfCounts key f ⊎ OfWords key f)
+
+  -- the symbol file of a definition that has no fault
+  pub record IsInterface (key : ℕ) (s : SymbolFile) : Type 0 where
+    pub right : names_worst u known ≡ None
+    pub is : s ≡ symbols_of key
+    pub spelled : Fits symbol_file s
+    pub words : nat_lt 32000 variables_words ≡ false

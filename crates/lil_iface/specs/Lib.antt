@@ -1,3 +1,4 @@
 pub mod Iface
+pub mod Known
 pub mod Laws
 pub mod Listed

@@ -81,6 +81,8 @@ pub(crate) fn class_of(
             number: routine.number.saturating_add(1).min(4_294_967_295) as u32,
         })),
         Thing::Nil
+        | Thing::ExternalVariable(_)
+        | Thing::ExternalProcedure(_)
         | Thing::Resident(_, _)
         | Thing::Standard(_)
         | Thing::Module(_)

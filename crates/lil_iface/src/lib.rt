@@ -4,7 +4,9 @@
 mod classes;
 mod exports;
 mod interface;
+mod known;
 mod names;
 mod types;
 
 pub use interface::interface_of;
+pub use known::interface_in;

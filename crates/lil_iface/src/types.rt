@@ -8,7 +8,7 @@ use lil_symfile::{Field as SymField, Form, Parameter as SymParameter, SymType};
 use lil_types::{Field, Parameter, TypeEntry, TypeForm, TypeTable};
 use std::alloc::Global;
 
-fn copied_names(alloc: Global, of: &[Name]) -> Result<Items<Name>, Memory>
+pub(crate) fn copied_names(alloc: Global, of: &[Name]) -> Result<Items<Name>, Memory>
     ensures { IfOk result (λ ns. ns ≡ of.now) }
 {
     let mut all = Items::new(alloc);
@@ -90,7 +90,7 @@ fn type_of(alloc: Global, of: &TypeEntry) -> Result<SymType, Memory>
 {
     let form = form_of(alloc, &of.form)?;
     Ok(SymType {
-        origin: u32::from(of.origin.module),
+        origin: of.origin.module,
         number: of.origin.number,
         form,
     })

@@ -1,3 +1,5 @@
 mod Blocks
+mod Constants
+mod Filling
 mod ImportForms
-mod Residents
+mod SourceNames

@@ -1,4 +1,6 @@
+pub mod Entering
 pub mod Imports
 pub mod Interfaces
 pub mod Moving
+pub mod Sources
 pub mod Standard

@@ -1,68 +1,72 @@
--- What an interface says, in the numbers of a unit's table to which its types are added.
-use Rattle.std.specs.Prelude.{ℕ, ◌+◌, nat_lt, min, Bool, true, false, map, List, [], ◌∷◌, Option, Some, None, if◌then◌else◌}
-use Rattle.lil_types.specs.{declared.table.{Field.Field, Parameter.Parameter, TypeForm.{TypeForm, TheVariants.{Enumeration, Subrange, Array, Record, SetOf, Pointer, Procedure, Opaque}}, TypeEntry.TypeEntry}, Types.Table, Adding.added}
+-- What an interface says, in the numbers of a unit to which its types and texts are added.
+use Rattle.std.specs.Prelude.{ℕ, ◌+◌, ◌-◌, nat_lt, min, Bool, true, false, map, List, [], ◌∷◌, Option, Some, None, slice_get, if◌then◌else◌}
+use Rattle.lil_types.specs.declared.table.{Field.Field, Parameter.Parameter, TypeForm.{TypeForm, TheVariants.{Enumeration, Subrange, Array, Record, SetOf, Pointer, Procedure, Opaque}}}
 use Rattle.lil_scope.specs.{declared.thing.{Kind.Kind, Thing.Thing}, Names.bound_at}
 use Rattle.lil_scope.specs.declared.thing.Kind.TheVariants as k
 use Rattle.lil_scope.specs.declared.thing.Thing.TheVariants as t
 use Rattle.lil_interfaces.specs.{declared.surface.Exported.Exported, Standard.{Block, known}}
 
--- ---- numbers: standard ones stay, and own ones move by as many as stood in the table before. No table has the number 4294967295
-abbrev pub moved : ℕ → ℕ → ℕ
-moved s n = if nat_lt n 16 then n else min (s + n) 4294967295
+-- ---- numbers: standard ones stay, and each of the interface's table gets its number in the unit's. No table has the number 4294967295
+abbrev pub number_at : Option ℕ → ℕ
+number_at None = 4294967295
+number_at (Some n) = n
 
-abbrev pub moved_some : ℕ → Option ℕ → Option ℕ
-moved_some s None = None
-moved_some s (Some n) = Some (moved s n)
+abbrev pub moved : List ℕ → ℕ → ℕ
+moved ns n = if nat_lt n 16 then n else number_at (slice_get ns (n - 16))
 
-abbrev pub moved_field : ℕ → Field → Field
-moved_field s f = record { name = f.name; sort = moved s f.sort }
+abbrev pub moved_some : List ℕ → Option ℕ → Option ℕ
+moved_some ns None = None
+moved_some ns (Some n) = Some (moved ns n)
 
-abbrev pub moved_parameter : ℕ → Parameter → Parameter
-moved_parameter s p = record { by_place = p.by_place; open_array = p.open_array; sort = moved s p.sort }
+abbrev pub moved_field : List ℕ → Field → Field
+moved_field ns f = record { name = f.name; sort = moved ns f.sort }
 
-abbrev pub moved_form : ℕ → TypeForm → TypeForm
-moved_form s (Enumeration names) = Enumeration names
-moved_form s (Subrange n span) = Subrange (moved s n) span
-moved_form s (Array i n) = Array (moved s i) (moved s n)
-moved_form s (Record fs) = Record (map (moved_field s) fs)
-moved_form s (SetOf n) = SetOf (moved s n)
-moved_form s (Pointer n) = Pointer (moved s n)
-moved_form s (Procedure ps r) = Procedure (map (moved_parameter s) ps) (moved_some s r)
-moved_form s (Opaque o) = Opaque (moved_some s o)
+abbrev pub moved_parameter : List ℕ → Parameter → Parameter
+moved_parameter ns p = record { by_place = p.by_place; open_array = p.open_array; sort = moved ns p.sort }
+
+abbrev pub moved_form : List ℕ → TypeForm → TypeForm
+moved_form ns (Enumeration names) = Enumeration names
+moved_form ns (Subrange n span) = Subrange (moved ns n) span
+moved_form ns (Array i n) = Array (moved ns i) (moved ns n)
+moved_form ns (Record fs) = Record (map (moved_field ns) fs)
+moved_form ns (SetOf n) = SetOf (moved ns n)
+moved_form ns (Pointer n) = Pointer (moved ns n)
+moved_form ns (Procedure ps r) = Procedure (map (moved_parameter ns) ps) (moved_some ns r)
+moved_form ns (Opaque o) = Opaque (moved_some ns o)
 
 -- ---- things
-abbrev pub moved_kind : ℕ → Kind → Kind
-moved_kind s (k.Scalar n w) = k.Scalar (moved s n) w
-moved_kind s (k.Of n) = k.Of (moved s n)
-moved_kind s (k.Open n) = k.Open (moved s n)
-moved_kind s (k.Routine n) = k.Routine (moved s n)
-moved_kind s kind = kind
+abbrev pub moved_kind : List ℕ → Kind → Kind
+moved_kind ns (k.Scalar n w) = k.Scalar (moved ns n) w
+moved_kind ns (k.Of n) = k.Of (moved ns n)
+moved_kind ns (k.Open n) = k.Open (moved ns n)
+moved_kind ns (k.Routine n) = k.Routine (moved ns n)
+moved_kind ns kind = kind
 
-abbrev pub moved_thing : ℕ → Thing → Thing
-moved_thing s (t.Constant kind) = t.Constant (moved_kind s kind)
-moved_thing s (t.Variable v) = t.Variable (record { number = v.number; level = v.level; sort = moved s v.sort; mode = v.mode })
-moved_thing s (t.Type n) = t.Type (moved s n)
-moved_thing s (t.Procedure p) = t.Procedure (record { number = p.number; block = p.block; level = p.level; sort = moved s p.sort })
-moved_thing s (t.Resident r n) = t.Resident r (moved s n)
-moved_thing s x = x
+-- texts move by as many as stood before. What is external belongs to the module whose names stand in block b
+abbrev pub moved_text : ℕ → ℕ → ℕ
+moved_text s n = min (s + n) 4294967295
 
--- a name that isn't exported is hidden
-abbrev pub seen_by : ℕ → Bool → Thing → Thing
-seen_by s true x = moved_thing s x
-seen_by s false x = t.Hidden
+module _ (ns : List ℕ) (s b : ℕ) where
+  abbrev pub moved_thing : Thing → Thing
+  moved_thing (t.Constant kind) = t.Constant (moved_kind ns kind)
+  moved_thing (t.Named n chars) = t.Named (moved_text s n) chars
+  moved_thing (t.Variable v) = t.Variable (record { number = v.number; level = v.level; sort = moved ns v.sort; mode = v.mode })
+  moved_thing (t.Type n) = t.Type (moved ns n)
+  moved_thing (t.Procedure p) = t.Procedure (record { number = p.number; block = p.block; level = p.level; sort = moved ns p.sort })
+  moved_thing (t.ExternalVariable v) = t.ExternalVariable (record { «module» = b; offset = v.offset; sort = moved ns v.sort })
+  moved_thing (t.ExternalProcedure p) = t.ExternalProcedure (record { «module» = b; number = p.number; sort = moved ns p.sort })
+  moved_thing (t.Resident r n) = t.Resident r (moved ns n)
+  moved_thing x = x
 
--- ---- the types of an interface at the end of a table. They keep their numbers in their module, which is that of the import m
-unfoldable pub with_type : ℕ → ℕ → Table → TypeEntry → Table
-with_type m s t e = added t (record { «module» = m; number = e.origin.number }) (moved_form s e.form)
+  -- a name that isn't exported is hidden
+  abbrev pub seen_by : Bool → Thing → Thing
+  seen_by true x = moved_thing x
+  seen_by false x = t.Hidden
 
-abbrev pub with_types : ℕ → ℕ → Table → List TypeEntry → Table
-with_types m s t [] = t
-with_types m s t (e ∷ es) = with_types m s (with_type m s t e) es
+  -- ---- the names of an interface in block b
+  unfoldable pub with_name : List Block → Exported → List Block
+  with_name bs x = bound_at bs b x.name (known (seen_by x.shown x.what))
 
--- ---- the names of an interface in a block b
-unfoldable pub with_name : ℕ → ℕ → List Block → Exported → List Block
-with_name s b bs x = bound_at bs b x.name (known (seen_by s x.shown x.what))
-
-abbrev pub with_names : ℕ → ℕ → List Block → List Exported → List Block
-with_names s b bs [] = bs
-with_names s b bs (x ∷ xs) = with_names s b (with_name s b bs x) xs
+  abbrev pub with_names : List Block → List Exported → List Block
+  with_names bs [] = bs
+  with_names bs (x ∷ xs) = with_names (with_name bs x) xs

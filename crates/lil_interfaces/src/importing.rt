@@ -1,138 +1,24 @@
-ghost use Rattle.std.specs.Prelude.{◌≡◌, IfOk, length};
+//! The names that imports bind.
+
+ghost use Rattle.std.specs.Prelude.{◌≡◌, IfOk, slice_get};
 ghost use Rattle.std.specs.Option.{option_copied};
+ghost use Rattle.lil_types.specs.declared.table.TypeEntry.{TypeEntry as Entered};
+ghost use Rattle.lil_types.specs.Types.{entry as type_entry};
 ghost use Rattle.lil_report.specs.Told.{Said, walk};
 ghost use Rattle.lil_interfaces.specs.Imports as spec;
+ghost use Rattle.lil_interfaces.specs.{Entering.{constants_by}, Sources.{source_of}};
 
-use crate::moving::{add_names, add_types};
-use crate::surface::{Interface, Interfaces, named, same_name};
-use lil_base::{FaultKind, Items, Memory, Name};
+use crate::modules::{Imported, enter};
+use crate::moving::copied_names;
+use crate::sources::{Source, Sources};
+use crate::surface::{Interfaces, same_name, same_text};
+use lil_base::{FaultKind, Items, Memory, Name, Place};
 use lil_language::Import;
 use lil_report::Report;
-use lil_scope::{Entry, Env, Thing, find_in, is_built};
+use lil_scope::{Entry, Env, Kind, Thing, find_in, is_built};
 use lil_text::Ident;
+use lil_types::{TypeForm, TypeId, TypeTable, entry};
 use std::alloc::Global;
-
-/// A module that is imported, and the block of its names.
-#[derive(Drop)]
-pub struct Entered {
-    pub name: Name,
-    pub block: usize,
-}
-
-/// Where an imported name comes from: it is that of a module, or stands in a module's block.
-#[derive(Clone, Copy)]
-pub enum Source {
-    Itself,
-    Block(usize),
-}
-
-/// A name that is imported.
-#[derive(Drop)]
-pub struct Taken {
-    pub name: Name,
-    pub source: Source,
-}
-
-/// What is declared behind the imports so far, with the modules and names that they take.
-#[derive(Drop)]
-pub struct Imported {
-    pub env: Env,
-    pub modules: Items<Entered>,
-    pub taken: Items<Taken>,
-}
-
-fn block_of(modules: &[Entered], name: &Name) -> Option<usize>
-    ensures { result ≡ spec.block_of modules.now name.now }
-{
-    for one in modules {
-        if same_name(name, &one.name) {
-            return Some(one.block);
-        }
-    }
-    None
-}
-
-fn source_of(taken: &[Taken], name: &Name) -> Option<Source>
-    ensures { result ≡ spec.source_of taken.now name.now }
-{
-    for one in taken {
-        if same_name(name, &one.name) {
-            return Some(one.source);
-        }
-    }
-    None
-}
-
-fn next_import(modules: &[Entered]) -> u8
-    ensures { result ≡ spec.next_import modules.now }
-{
-    modules.len().min(254) as u8 + 1
-}
-
-/// The types and names of an interface, the import of this number.
-#[tactic(auto, unfolding(crate::specs::Imports::filled))]
-fn fill(
-    alloc: Global,
-    number: u8,
-    block: usize,
-    env: &mut Env,
-    of: Option<&Interface>,
-) -> Result<(), Memory>
-    ensures { IfOk result (λ u. env.new ≡ spec.filled number block env.old (option_copied of.entry)) }
-{
-    match of {
-        None => Ok(()),
-        Some(of) => {
-            let start = env.types.len();
-            add_types(alloc, &mut env.types, number, start, &of.types)?;
-            add_names(
-                alloc,
-                &mut env.scopes.blocks,
-                start,
-                block,
-                of.names.as_slice(),
-            )?;
-            Ok(())
-        }
-    }
-}
-
-/// A module that isn't imported before: its block has the next number.
-fn open_module(
-    alloc: Global,
-    interfaces: &Interfaces,
-    so_far: &mut Imported,
-    name: &Name,
-) -> Result<usize, Memory>
-    ensures state { IfOk result (λ b. so_far.new ≡ spec.opened interfaces.now so_far.old name.now) }
-    ensures block { IfOk result (λ b. b ≡ length so_far.old.env.scopes.blocks) }
-{
-    let number = next_import(so_far.modules.as_slice());
-    let block = so_far.env.scopes.blocks.begin(alloc)?;
-    let interface = named(interfaces.as_slice(), name);
-    fill(alloc, number, block, &mut so_far.env, interface)?;
-    so_far.modules.push(Entered {
-        name: name.copy(alloc)?,
-        block,
-    })?;
-    Ok(block)
-}
-
-/// The block of a module's names.
-#[tactic(auto, unfolding(crate::specs::Imports::entered))]
-fn enter(
-    alloc: Global,
-    interfaces: &Interfaces,
-    so_far: &mut Imported,
-    name: &Name,
-) -> Result<usize, Memory>
-    ensures { IfOk result (λ b. (so_far.new, b) ≡ spec.entered interfaces.now so_far.old name.now) }
-{
-    match block_of(so_far.modules.as_slice(), name) {
-        Some(block) => Ok(block),
-        None => open_module(alloc, interfaces, so_far, name),
-    }
-}
 
 fn comes_from(before: Option<Source>, from: Source) -> bool
     ensures { result ≡ spec.comes_from before «from» }
@@ -144,26 +30,67 @@ fn comes_from(before: Option<Source>, from: Source) -> bool
     }
 }
 
-fn same_type(a: Thing, b: Thing) -> bool
-    ensures { result ≡ spec.same_type a b }
+/// The constants of an enumeration by their names, none of another form.
+fn constants_by(of: &TypeForm) -> &[Name]
+    ensures { result.now ≡ constants_by of.now }
+{
+    match of {
+        TypeForm::Enumeration(names) => names.as_slice(),
+        _ => &[],
+    }
+}
+
+/// Those of the type of a number.
+fn constants_of(t: &TypeTable, sort: TypeId) -> &[Name]
+    ensures { result.now ≡ spec.constants_of t.now sort }
+{
+    match entry(t, sort) {
+        None => &[],
+        Some(of) => constants_by(&of.form),
+    }
+}
+
+fn is_at(name: &Name, there: Option<&Name>) -> bool
+    ensures { result ≡ spec.is_at name.now (option_copied there.entry) }
+{
+    match there {
+        None => false,
+        Some(there) => same_name(name, there),
+    }
+}
+
+/// Whether two constants are the one of this name of one enumeration.
+fn same_constant(t: &TypeTable, name: &Name, a: Kind, b: Kind) -> bool
+    ensures { result ≡ spec.same_constant t.now name.now a b }
 {
     match (a, b) {
-        (Thing::Type(a), Thing::Type(b)) => a == b,
+        (Kind::Scalar(a, v), Kind::Scalar(b, w)) => {
+            a == b && (v == w && is_at(name, constants_of(t, a).get(usize::from(v))))
+        }
         _ => false,
     }
 }
 
-fn stands_for_another(
-    there: Option<Thing>,
-    before: Option<Source>,
-    from: Source,
-    thing: Thing,
-) -> bool
-    ensures { result ≡ spec.stands_for_another there before «from» thing }
+fn same_thing(t: &TypeTable, name: &Name, a: Thing, b: Thing) -> bool
+    ensures { result ≡ spec.same_thing t.now name.now a b }
 {
-    match there {
+    match (a, b) {
+        (Thing::Type(a), Thing::Type(b)) => a == b,
+        (Thing::Constant(a), Thing::Constant(b)) => same_constant(t, name, a, b),
+        _ => false,
+    }
+}
+
+/// Whether a name of the unit's block stands for another thing than this one.
+fn stands_for_another(so_far: &Imported, from: Source, name: &Name, thing: Thing) -> bool
+    ensures { result ≡ spec.stands_for_another so_far.now.env.types name.now (spec.there so_far.now name.now) (source_of so_far.now.taken name.now) «from» thing }
+{
+    match find_in(&so_far.env.scopes, so_far.env.scopes.inner, name) {
         None => false,
-        Some(there) => !(comes_from(before, from) || same_type(there, thing)),
+        Some(there) => {
+            !(comes_from(so_far.taken.find(name), from)
+                || same_thing(&so_far.env.types, name, there, thing))
+        }
     }
 }
 
@@ -179,25 +106,116 @@ fn take(
 ) -> Result<(), Memory>
     ensures { IfOk result (λ u. Said (spec.take_node «from» at.now so_far.old thing) report.old so_far.new report.new) }
 {
-    let inner = so_far.env.scopes.inner;
-    let there = find_in(&so_far.env.scopes, inner, &at.name);
-    let before = source_of(so_far.taken.as_slice(), &at.name);
-    let another = stands_for_another(there, before, from, thing);
+    let another = stands_for_another(so_far, from, &at.name, thing);
     report.note(another, at.place, FaultKind::Twice);
     let entry = Entry {
         thing,
         place: at.place,
     };
+    let inner = so_far.env.scopes.inner;
     so_far
         .env
         .scopes
         .blocks
         .declare(alloc, inner, &at.name, entry)?;
-    so_far.taken.push(Taken {
-        name: at.name.copy(alloc)?,
-        source: from,
-    })?;
+    so_far.taken.add(alloc, &at.name, from)?;
     Ok(())
+}
+
+/// The constant with a number of an enumeration.
+fn constant(sort: TypeId, number: usize) -> Thing
+    ensures { result ≡ spec.constant sort number }
+{
+    Thing::Constant(Kind::Scalar(sort, number.min(65535) as u16))
+}
+
+/// A constant that comes with its type, at the place of the type's name.
+fn take_constant(
+    alloc: Global,
+    from: Source,
+    place: Place,
+    so_far: &mut Imported,
+    report: &mut Report,
+    name: &Name,
+    thing: Thing,
+) -> Result<(), Memory>
+    ensures { IfOk result (λ u. Said (spec.take_node «from» (spec.ident place name.now) so_far.old thing) report.old so_far.new report.new) }
+{
+    let name = name.copy(alloc)?;
+    let at = Ident { name, place };
+    take(alloc, from, &at, so_far, report, thing)
+}
+
+/// The constants of an enumeration.
+fn take_constants(
+    alloc: Global,
+    from: Source,
+    place: Place,
+    sort: TypeId,
+    so_far: &mut Imported,
+    report: &mut Report,
+    names: &[Name],
+) -> Result<(), Memory>
+    ensures { IfOk result (λ u. Said (spec.constants_step «from» place sort 0 so_far.old names.now) report.old so_far.new report.new) }
+{
+    for number in 0..names.len() {
+        let thing = constant(sort, number);
+        take_constant(alloc, from, place, so_far, report, &names[number], thing)?;
+    }
+    Ok(())
+}
+
+/// The constants of an enumeration, unless they are bound.
+fn bring(
+    alloc: Global,
+    from: Source,
+    place: Place,
+    so_far: &mut Imported,
+    report: &mut Report,
+    sort: TypeId,
+) -> Result<(), Memory>
+    ensures { IfOk result (λ u. Said (spec.bring «from» place so_far.old sort) report.old so_far.new report.new) }
+{
+    if so_far.enumerations.has(sort) {
+        return Ok(());
+    }
+    so_far.enumerations.add(sort)?;
+    let names = copied_names(alloc, constants_of(&so_far.env.types, sort))?;
+    take_constants(alloc, from, place, sort, so_far, report, names.as_slice())
+}
+
+/// What comes with the name of a thing: with that of a type its constants.
+#[tactic(auto, unfolding(crate::specs::Imports::with_constants))]
+fn with_constants(
+    alloc: Global,
+    from: Source,
+    place: Place,
+    so_far: &mut Imported,
+    report: &mut Report,
+    thing: Thing,
+) -> Result<(), Memory>
+    ensures { IfOk result (λ u. Said (spec.with_constants «from» place thing so_far.old) report.old so_far.new report.new) }
+{
+    match thing {
+        Thing::Type(sort) => bring(alloc, from, place, so_far, report, sort),
+        _ => Ok(()),
+    }
+}
+
+/// Binds an imported name, and what comes with it.
+#[tactic(auto, using(lil_report::specs::Laws::said_after))]
+fn take_whole(
+    alloc: Global,
+    from: Source,
+    at: &Ident,
+    so_far: &mut Imported,
+    report: &mut Report,
+    thing: Thing,
+) -> Result<(), Memory>
+    ensures { IfOk result (λ u. Said (spec.taken_node «from» at.now so_far.old thing) report.old so_far.new report.new) }
+{
+    take(alloc, from, at, so_far, report, thing)?;
+    with_constants(alloc, from, at.place, so_far, report, thing)
 }
 
 fn is_hidden(of: Option<Thing>) -> bool
@@ -241,7 +259,7 @@ fn import_name(
 {
     let of = find_in(&so_far.env.scopes, block, &at.name);
     let thing = found(report, at, of);
-    take(alloc, Source::Block(block), at, so_far, report, thing)
+    take_whole(alloc, Source::Block(block), at, so_far, report, thing)
 }
 
 fn import_names(
@@ -259,7 +277,39 @@ fn import_names(
     Ok(())
 }
 
+/// Whether programs can't use anything yet of the module of this name.
+fn is_unbuilt(name: &Name) -> bool
+    ensures { result ≡ spec.is_unbuilt name.now }
+{
+    let name = name.as_slice();
+    same_text(name, b"FileSystem") || (same_text(name, b"Program") || same_text(name, b"Channels"))
+}
+
+/// Tells fault 90 where a module is imported of which programs can't use anything yet.
+#[tactic(auto, unfolding(crate::specs::Imports::late_node, lil_report::specs::Told::tell))]
+fn late(so_far: &Imported, report: &mut Report, at: &Ident)
+    ensures { Said (spec.late_node at.now so_far.now) report.old so_far.now report.new }
+{
+    let unbuilt = is_unbuilt(&at.name);
+    report.note(unbuilt, at.place, FaultKind::NotBuilt);
+}
+
+fn own_name(
+    alloc: Global,
+    interfaces: &Interfaces,
+    so_far: &mut Imported,
+    report: &mut Report,
+    at: &Ident,
+) -> Result<(), Memory>
+    ensures { IfOk result (λ u. Said (spec.own_node interfaces.now at.now so_far.old) report.old so_far.new report.new) }
+{
+    let block = enter(alloc, interfaces, so_far, &at.name)?;
+    let thing = Thing::Module(block);
+    take(alloc, Source::Itself, at, so_far, report, thing)
+}
+
 /// A module by its own name.
+#[tactic(auto, using(lil_report::specs::Laws::said_after))]
 fn import_module(
     alloc: Global,
     interfaces: &Interfaces,
@@ -269,15 +319,8 @@ fn import_module(
 ) -> Result<(), Memory>
     ensures { IfOk result (λ u. Said (spec.module_step interfaces.now so_far.old at.now) report.old so_far.new report.new) }
 {
-    let block = enter(alloc, interfaces, so_far, &at.name)?;
-    take(
-        alloc,
-        Source::Itself,
-        at,
-        so_far,
-        report,
-        Thing::Module(block),
-    )
+    late(so_far, report, at);
+    own_name(alloc, interfaces, so_far, report, at)
 }
 
 fn import_modules(
@@ -295,6 +338,36 @@ fn import_modules(
     Ok(())
 }
 
+fn import_from(
+    alloc: Global,
+    interfaces: &Interfaces,
+    so_far: &mut Imported,
+    report: &mut Report,
+    owner: &Ident,
+    names: &[Ident],
+) -> Result<(), Memory>
+    ensures { IfOk result (λ u. Said (spec.names_of interfaces.now owner.now names.now so_far.old) report.old so_far.new report.new) }
+{
+    let block = enter(alloc, interfaces, so_far, &owner.name)?;
+    import_names(alloc, block, so_far, report, names)
+}
+
+/// Names of a module.
+#[tactic(auto, using(lil_report::specs::Laws::said_after))]
+fn import_of(
+    alloc: Global,
+    interfaces: &Interfaces,
+    so_far: &mut Imported,
+    report: &mut Report,
+    owner: &Ident,
+    names: &[Ident],
+) -> Result<(), Memory>
+    ensures { IfOk result (λ u. Said (spec.names_from interfaces.now owner.now names.now so_far.old) report.old so_far.new report.new) }
+{
+    late(so_far, report, owner);
+    import_from(alloc, interfaces, so_far, report, owner, names)
+}
+
 fn import(
     alloc: Global,
     interfaces: &Interfaces,
@@ -307,8 +380,14 @@ fn import(
     match &of.from {
         None => import_modules(alloc, interfaces, so_far, report, of.names.as_slice()),
         Some(owner) => {
-            let block = enter(alloc, interfaces, so_far, &owner.name)?;
-            import_names(alloc, block, so_far, report, of.names.as_slice())
+            import_of(
+                alloc,
+                interfaces,
+                so_far,
+                report,
+                owner,
+                of.names.as_slice(),
+            )
         }
     }
 }
@@ -338,15 +417,15 @@ fn declared_here(there: Option<Thing>, from: Option<Source>) -> bool
 
 /// A name that a definition exports: where the definition doesn't declare it, that is fault 20.
 #[tactic(auto, unfolding(crate::specs::Imports::export_step, lil_report::specs::Told::tell))]
-fn export(taken: &Items<Taken>, env: &Env, report: &mut Report, at: &Ident)
+fn export(taken: &Sources, env: &Env, report: &mut Report, at: &Ident)
     ensures { Said (spec.export_step taken.now env.now at.now) report.old env.now report.new }
 {
     let there = find_in(&env.scopes, env.scopes.inner, &at.name);
-    let from = source_of(taken.as_slice(), &at.name);
+    let from = taken.find(&at.name);
     report.note(!declared_here(there, from), at.place, FaultKind::Unknown);
 }
 
-fn export_names(taken: &Items<Taken>, env: &Env, report: &mut Report, names: &[Ident])
+fn export_names(taken: &Sources, env: &Env, report: &mut Report, names: &[Ident])
     ensures { Said (walk (spec.export_step taken.now) env.now names.now) report.old env.now report.new }
 {
     for at in names {
@@ -355,7 +434,7 @@ fn export_names(taken: &Items<Taken>, env: &Env, report: &mut Report, names: &[I
 }
 
 /// The names that a definition exports, where it says which.
-pub fn exports(taken: &Items<Taken>, env: &Env, report: &mut Report, names: &Option<Items<Ident>>)
+pub fn exports(taken: &Sources, env: &Env, report: &mut Report, names: &Option<Items<Ident>>)
     ensures { Said (spec.exports_mean taken.now env.now names.now) report.old env.now report.new }
 {
     match names {

@@ -1,13 +1,21 @@
 //! The names that a unit begins with: the standard names, the interfaces of other modules, and what is imported of them.
 #![tactic(auto)]
 
+mod entering;
 mod importing;
+mod modules;
 mod moving;
+mod origins;
 mod resident_modules;
+mod sources;
 mod standard;
 mod surface;
 
-pub use importing::{Entered, Imported, Source, Taken, exports, imports};
+pub use entering::{add_rest, add_rests, copied_rests, copied_wanted, has_rest, with_itself};
+pub use importing::{exports, imports};
+pub use modules::{Entered, Imported};
+pub use origins::{Enumerations, Origins};
 pub use resident_modules::{all_resident, resident};
+pub use sources::{Source, Sources};
 pub use standard::start;
 pub use surface::{Exported, Interface, Interfaces, named, same_name, same_text};

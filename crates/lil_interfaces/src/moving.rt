@@ -1,68 +1,79 @@
+//! What an interface says, in the numbers of a unit.
+
 ghost use Rattle.std.specs.Prelude.{◌≡◌, IfOk, map};
+ghost use Rattle.std.specs.Option.{option_copied};
 ghost use Rattle.lil_interfaces.specs.Moving as spec;
 
 use crate::standard::known;
 use crate::surface::Exported;
 use lil_base::{Items, Memory, Name};
-use lil_scope::{Blocks, Kind, Routine, Thing, Variable};
-use lil_types::{Field, Fields, Origin, Parameter, TypeEntry, TypeForm, TypeId, TypeTable, add};
+use lil_scope::{Blocks, ExternalProcedure, ExternalVariable, Kind, Routine, Thing, Variable};
+use lil_types::{Field, Fields, Parameter, TypeForm, TypeId};
 use std::alloc::Global;
 
-/// The number in the unit's table of a type that an interface has under this number, where `start` types stood in the table
-/// before.
-fn moved(start: usize, number: TypeId) -> TypeId
-    ensures { result ≡ spec.moved start number }
+fn number_at(number: Option<&TypeId>) -> TypeId
+    ensures { result ≡ spec.number_at (option_copied number.entry) }
+{
+    match number {
+        Some(number) => *number,
+        None => 4_294_967_295,
+    }
+}
+
+/// The number in the unit's table of a type that an interface has under this number, where the types of its table have these.
+fn moved(numbers: &[TypeId], number: TypeId) -> TypeId
+    ensures { result ≡ spec.moved numbers.now number }
 {
     if number < 16 {
         return number;
     }
-    start.saturating_add(number as usize).min(4_294_967_295) as TypeId
+    number_at(numbers.get(number as usize - 16))
 }
 
-fn moved_some(start: usize, number: Option<TypeId>) -> Option<TypeId>
-    ensures { result ≡ spec.moved_some start number }
+fn moved_some(numbers: &[TypeId], number: Option<TypeId>) -> Option<TypeId>
+    ensures { result ≡ spec.moved_some numbers.now number }
 {
     match number {
-        Some(number) => Some(moved(start, number)),
+        Some(number) => Some(moved(numbers, number)),
         None => None,
     }
 }
 
-fn moved_parameter(start: usize, of: Parameter) -> Parameter
-    ensures { result ≡ spec.moved_parameter start of }
+fn moved_parameter(numbers: &[TypeId], of: Parameter) -> Parameter
+    ensures { result ≡ spec.moved_parameter numbers.now of }
 {
     Parameter {
-        sort: moved(start, of.sort),
+        sort: moved(numbers, of.sort),
         ..of
     }
 }
 
 fn moved_parameters(
     alloc: Global,
-    start: usize,
+    numbers: &[TypeId],
     of: &[Parameter],
 ) -> Result<Items<Parameter>, Memory>
-    ensures { IfOk result (λ ps. ps ≡ map (spec.moved_parameter start) of.now) }
+    ensures { IfOk result (λ ps. ps ≡ map (spec.moved_parameter numbers.now) of.now) }
 {
     let mut all = Items::new(alloc);
     for one in of {
-        all.push(moved_parameter(start, *one))?;
+        all.push(moved_parameter(numbers, *one))?;
     }
     Ok(all)
 }
 
-fn moved_fields(alloc: Global, start: usize, of: &[Field]) -> Result<Fields, Memory>
-    ensures { IfOk result (λ fs. fs ≡ map (spec.moved_field start) of.now) }
+fn moved_fields(alloc: Global, numbers: &[TypeId], of: &[Field]) -> Result<Fields, Memory>
+    ensures { IfOk result (λ fs. fs ≡ map (spec.moved_field numbers.now) of.now) }
 {
     let mut all = Fields::new(alloc);
     for one in of {
-        let (_, more) = all.with(alloc, &one.name, moved(start, one.sort))?;
+        let (_, more) = all.with(alloc, &one.name, moved(numbers, one.sort))?;
         all = more;
     }
     Ok(all)
 }
 
-fn copied_names(alloc: Global, of: &[Name]) -> Result<Items<Name>, Memory>
+pub(crate) fn copied_names(alloc: Global, of: &[Name]) -> Result<Items<Name>, Memory>
     ensures { IfOk result (λ ns. ns ≡ of.now) }
 {
     let mut all = Items::new(alloc);
@@ -72,113 +83,108 @@ fn copied_names(alloc: Global, of: &[Name]) -> Result<Items<Name>, Memory>
     Ok(all)
 }
 
-fn moved_form(alloc: Global, start: usize, of: &TypeForm) -> Result<TypeForm, Memory>
-    ensures { IfOk result (λ f. f ≡ spec.moved_form start of.now) }
+pub(crate) fn moved_form(
+    alloc: Global,
+    numbers: &[TypeId],
+    of: &TypeForm,
+) -> Result<TypeForm, Memory>
+    ensures { IfOk result (λ f. f ≡ spec.moved_form numbers.now of.now) }
 {
     Ok(match of {
         TypeForm::Enumeration(names) => {
             TypeForm::Enumeration(copied_names(alloc, names.as_slice())?)
         }
-        TypeForm::Subrange(base, span) => TypeForm::Subrange(moved(start, *base), *span),
+        TypeForm::Subrange(base, span) => TypeForm::Subrange(moved(numbers, *base), *span),
         TypeForm::Array(index, element) => {
-            TypeForm::Array(moved(start, *index), moved(start, *element))
+            TypeForm::Array(moved(numbers, *index), moved(numbers, *element))
         }
         TypeForm::Record(fields) => {
-            TypeForm::Record(moved_fields(alloc, start, fields.as_slice())?)
+            TypeForm::Record(moved_fields(alloc, numbers, fields.as_slice())?)
         }
-        TypeForm::SetOf(base) => TypeForm::SetOf(moved(start, *base)),
-        TypeForm::Pointer(target) => TypeForm::Pointer(moved(start, *target)),
+        TypeForm::SetOf(base) => TypeForm::SetOf(moved(numbers, *base)),
+        TypeForm::Pointer(target) => TypeForm::Pointer(moved(numbers, *target)),
         TypeForm::Procedure(parameters, answer) => TypeForm::Procedure(
-            moved_parameters(alloc, start, parameters.as_slice())?,
-            moved_some(start, *answer),
+            moved_parameters(alloc, numbers, parameters.as_slice())?,
+            moved_some(numbers, *answer),
         ),
-        TypeForm::Opaque(other) => TypeForm::Opaque(moved_some(start, *other)),
+        TypeForm::Opaque(other) => TypeForm::Opaque(moved_some(numbers, *other)),
     })
 }
 
-fn moved_kind(start: usize, of: Kind) -> Kind
-    ensures { result ≡ spec.moved_kind start of }
+fn moved_kind(numbers: &[TypeId], of: Kind) -> Kind
+    ensures { result ≡ spec.moved_kind numbers.now of }
 {
     match of {
-        Kind::Scalar(sort, word) => Kind::Scalar(moved(start, sort), word),
-        Kind::Of(sort) => Kind::Of(moved(start, sort)),
-        Kind::Open(sort) => Kind::Open(moved(start, sort)),
-        Kind::Routine(sort) => Kind::Routine(moved(start, sort)),
+        Kind::Scalar(sort, word) => Kind::Scalar(moved(numbers, sort), word),
+        Kind::Of(sort) => Kind::Of(moved(numbers, sort)),
+        Kind::Open(sort) => Kind::Open(moved(numbers, sort)),
+        Kind::Routine(sort) => Kind::Routine(moved(numbers, sort)),
         _ => of,
     }
 }
 
-fn moved_thing(start: usize, of: Thing) -> Thing
-    ensures { result ≡ spec.moved_thing start of }
+/// The number of a text, where so many stood before.
+fn moved_text(texts: usize, number: usize) -> usize
+    ensures { result ≡ spec.moved_text texts number }
+{
+    texts.saturating_add(number).min(4_294_967_295)
+}
+
+/// A thing of an interface, where so many texts stood before. What is external belongs to the module whose names stand in this
+/// block.
+fn moved_thing(numbers: &[TypeId], texts: usize, block: usize, of: Thing) -> Thing
+    ensures { result ≡ spec.moved_thing numbers.now texts block of }
 {
     match of {
-        Thing::Constant(kind) => Thing::Constant(moved_kind(start, kind)),
+        Thing::Constant(kind) => Thing::Constant(moved_kind(numbers, kind)),
+        Thing::Named(number, chars) => Thing::Named(moved_text(texts, number), chars),
         Thing::Variable(variable) => Thing::Variable(Variable {
-            sort: moved(start, variable.sort),
+            sort: moved(numbers, variable.sort),
             ..variable
         }),
-        Thing::Type(sort) => Thing::Type(moved(start, sort)),
+        Thing::Type(sort) => Thing::Type(moved(numbers, sort)),
         Thing::Procedure(routine) => Thing::Procedure(Routine {
-            sort: moved(start, routine.sort),
+            sort: moved(numbers, routine.sort),
             ..routine
         }),
-        Thing::Resident(request, sort) => Thing::Resident(request, moved(start, sort)),
+        Thing::ExternalVariable(variable) => Thing::ExternalVariable(ExternalVariable {
+            module: block,
+            sort: moved(numbers, variable.sort),
+            ..variable
+        }),
+        Thing::ExternalProcedure(procedure) => Thing::ExternalProcedure(ExternalProcedure {
+            module: block,
+            sort: moved(numbers, procedure.sort),
+            ..procedure
+        }),
+        Thing::Resident(request, sort) => Thing::Resident(request, moved(numbers, sort)),
         _ => of,
     }
 }
 
-/// A type of an interface at the end of a table.
-#[tactic(auto, unfolding(crate::specs::Moving::with_type))]
-fn add_type(
-    alloc: Global,
-    to: &mut TypeTable,
-    number: u8,
-    start: usize,
-    of: &TypeEntry,
-) -> Result<(), Memory>
-    ensures { IfOk result (λ u. to.new ≡ spec.with_type number start to.old of.now) }
+fn seen_by(numbers: &[TypeId], texts: usize, block: usize, of: &Exported) -> Thing
+    ensures { result ≡ spec.seen_by numbers.now texts block of.now.shown of.now.what }
 {
-    let origin = Origin {
-        module: number,
-        number: of.origin.number,
-    };
-    let form = moved_form(alloc, start, &of.form)?;
-    add(to, origin, form)?;
-    Ok(())
-}
-
-/// The types of an interface, the import of this number, at the end of a table that had `start` types.
-pub(crate) fn add_types(
-    alloc: Global,
-    to: &mut TypeTable,
-    number: u8,
-    start: usize,
-    of: &TypeTable,
-) -> Result<(), Memory>
-    ensures { IfOk result (λ u. to.new ≡ spec.with_types number start to.old of.now) }
-{
-    for entry in of.as_slice() {
-        add_type(alloc, to, number, start, entry)?;
+    if of.shown {
+        moved_thing(numbers, texts, block, of.what)
+    } else {
+        Thing::Hidden
     }
-    Ok(())
 }
 
 /// A name of an interface in a block.
 #[tactic(auto, unfolding(crate::specs::Moving::with_name))]
 fn add_name(
     alloc: Global,
-    to: &mut Blocks,
-    start: usize,
+    numbers: &[TypeId],
+    texts: usize,
     block: usize,
+    to: &mut Blocks,
     of: &Exported,
 ) -> Result<(), Memory>
-    ensures { IfOk result (λ u. to.new ≡ spec.with_name start block to.old of.now) }
+    ensures { IfOk result (λ u. to.new ≡ spec.with_name numbers.now texts block to.old of.now) }
 {
-    let seen = if of.shown {
-        moved_thing(start, of.what)
-    } else {
-        Thing::Hidden
-    };
+    let seen = seen_by(numbers, texts, block, of);
     to.declare(alloc, block, &of.name, known(seen))?;
     Ok(())
 }
@@ -186,15 +192,16 @@ fn add_name(
 /// The names of an interface in a block.
 pub(crate) fn add_names(
     alloc: Global,
-    to: &mut Blocks,
-    start: usize,
+    numbers: &[TypeId],
+    texts: usize,
     block: usize,
+    to: &mut Blocks,
     of: &[Exported],
 ) -> Result<(), Memory>
-    ensures { IfOk result (λ u. to.new ≡ spec.with_names start block to.old of.now) }
+    ensures { IfOk result (λ u. to.new ≡ spec.with_names numbers.now texts block to.old of.now) }
 {
     for one in of {
-        add_name(alloc, to, start, block, one)?;
+        add_name(alloc, numbers, texts, block, to, one)?;
     }
     Ok(())
 }

@@ -4,13 +4,15 @@ ghost use Rattle.lil_base.specs.Names.{is_name};
 ghost use Rattle.lil_scope.specs.Names.{same};
 ghost use Rattle.lil_interfaces.specs.Interfaces as spec;
 
-use lil_base::{Items, Memory, Name, same_bytes};
+use lil_base::{Items, Key, Memory, Name, Shared, Text, same_bytes};
+use lil_format::Wanted;
 use lil_scope::Thing;
 use lil_types::TypeTable;
 use std::alloc::Global;
 
 /// A name that a definition module declares, whether it is exported, and what it stands for. Numbers of types are those of the
-/// interface's own table.
+/// interface's own table, and numbers of texts those of its own texts. A variable or procedure of its own is external, with 0 for
+/// the module.
 #[derive(Drop)]
 pub struct Exported {
     pub shown: bool,
@@ -18,12 +20,16 @@ pub struct Exported {
     pub what: Thing,
 }
 
-/// What a definition module says (Programming in Modula-2, Definition and implementation parts): its types and its names,
-/// in their order.
+/// What a definition module says (Programming in Modula-2, Definition and implementation parts): its key, 0 where it is resident;
+/// the modules on which it rests; its types, the texts of its constants and its names, in their order. A type belongs to the module
+/// itself, 0, or to the k-th of those on which it rests.
 #[derive(Drop)]
 pub struct Interface {
     pub name: Name,
+    pub key: Key,
+    pub rests: Items<Wanted>,
     pub types: TypeTable,
+    pub texts: Items<Shared<Text>>,
     pub names: Items<Exported>,
 }
 

@@ -27,8 +27,26 @@ use Rattle.lil_call.specs.Procedures.{agrees}
 use Rattle.lil_call.specs.Passing.{all_have_values, nothing_passed, raised, with_argument, argument_node, argument_by, argument_step, arguments_mean}
 use Rattle.lil_call.specs.declared.call.Argument.TheVariants as argument
 use Rattle.lil_call.specs.declared.call.Callee.TheVariants as callee
-use Rattle.lil_right_type.specs.{Found.{GoesWith, IsFound, ParameterTold, ResultTold, HeadingTold, value, place, signature}, Parts.{IsRoutine, routine_is}, Right.{Right, IsThere, is_so, after_right}, Typed.{Yields, kept_if}, Types.{IsTold, PassedTold}, Words.AreMeasured}
+use Rattle.lil_right_type.specs.{Found.{GoesWith, IsFound, ParameterTold, ResultTold, HeadingTold, IsSigned, value, place, signature}, Parts.{IsRoutine, routine_is}, Right.{Right, IsThere, is_so, after_right}, Typed.{Yields, kept_if}, Types.{IsTold, PassedTold}, Words.AreMeasured}
 use Rattle.lil_right_call.specs.{Functions.function_right, Given.{IsTaken, string_there, value_there, stored_there, address_there, argument_there, passed_lies}, Procedures.procedure_right, Told.{ArgumentTold, CalleeTold}}
+
+-- ---- resident procedures
+-- the parameters of one that is built are told
+abbrev signed : Option (List Parameter) → List Parameter
+signed None = []
+signed (Some ps) = ps
+
+resident_signed : (t : Table) (s : ℕ) (r : Resident) → resident_built r ≡ true → IsSigned t s (signature r) → (parameters t s ≡ signed (signature r)) × (result t s ≡ None)
+resident_signed t s resident.Write is h = h
+resident_signed t s resident.WriteString is h = h
+resident_signed t s resident.WriteLn is h = h
+resident_signed t s resident.WriteCard is h = h
+resident_signed t s resident.WriteInt is h = h
+resident_signed t s resident.WriteOct is h = h
+resident_signed t s resident.WriteHex is h = h
+resident_signed t s resident.Allocate is h = h
+resident_signed t s resident.Deallocate is h = h
+resident_signed t s _ is h = cc
 
 module _ {t : Table} {vs : RNamed → Option RVar} {around : List ℕ} {R : Reach} (P : Property t vs around R) (told : IsTold t) where
   -- ---- arguments
@@ -202,7 +220,7 @@ module _ {t : Table} {vs : RNamed → Option RVar} {around : List ℕ} {R : Reac
     unfolding no_call
     value_right (callee.Procedure s n levels) xs h all = own_right s n levels xs h.0 h.1 h.2 h.3 all
     value_right (callee.Variable s d o) xs h all = variable_invoked s d o xs h all
-    value_right (callee.Resident r s) xs h all = uncalled p (IsThere (IsFound P)) true (of_resident r s) xs _ (and_right (is_routine t s) _ (ap is_some h.1))
+    value_right (callee.Resident r s) xs h all = uncalled p (IsThere (IsFound P)) true (of_resident r s) xs _ (and_right (is_routine t s) _ (ap is_some (resident_signed t s r h.1 h.0).1))
     value_right (callee.Standard of) xs h all = function_right P told p of xs all
     value_right callee.Other xs h all = λ clear. absurd (true≢false clear.0)
 
@@ -261,7 +279,7 @@ module _ {t : Table} {vs : RNamed → Option RVar} {around : List ℕ} {R : Reac
       let y = value_there fits told all.3.0 all.3.1 cardinal b.Cardinal refl refl all.3.2 in
       (given.Place c.0 ∷ given.Value (plain b.Cardinal) y.0 ∷ [], all.3.3 ∙ (λ i. joined (joined (Some []) (c.1 i)) (y.1 i)), subst IsDone (sym ((λ i. allocated way (its_place c.0 i) (its_value (plain b.Cardinal) y.0 i)))) (made_sound ts looping _ _ (allocate_is way c.0 y.0) (c.2, y.2)))
 
-  resident_called : (r : Resident) (h : Option (List RArgument)) → resident_built r ≡ true → Hands P told (signature r) nothing_handed h → IsDone (called r h)
+  resident_called : (r : Resident) (h : Option (List RArgument)) → resident_built r ≡ true → Hands P told (signed (signature r)) nothing_handed h → IsDone (called r h)
   unfolding called handed_over
   resident_called resident.Write h is all =
       let x = stored_there fits told all.0 all.1 char (plain b.Character) refl all.2 in
@@ -326,11 +344,11 @@ module _ {t : Table} {vs : RNamed → Option RVar} {around : List ℕ} {R : Reac
       by (Some e) j = λ clear. own_called s n levels e h.0.0 h.1 h.2 h.3 j
   statement_right p (callee.Variable s d o) xs h all = variable_called p s d o xs h all
   statement_right p (callee.Resident r s) xs h all =
-      after_right (IsThere (IsReady P told false s (signature r))) IsDone (routine_mean t p false (of_resident r s) xs) _ (passed_right P told p false (of_resident r s) (signature r) xs h.0 all) by
+      after_right (IsThere (IsReady P told false s (signed (signature r)))) IsDone (routine_mean t p false (of_resident r s) xs) _ (passed_right P told p false (of_resident r s) (signed (signature r)) xs (resident_signed t s r h.1 h.0).0 all) by
     where
-      by : (o : Option Passed) → IsThere (IsReady P told false s (signature r)) o → Right IsDone (call_statement (of_resident r s) o, [])
+      by : (o : Option Passed) → IsThere (IsReady P told false s (signed (signature r))) o → Right IsDone (call_statement (of_resident r s) o, [])
       by None j = absurd j
-      by (Some e) j = λ clear. resident_called r e.handed h.2 j.hands
+      by (Some e) j = λ clear. resident_called r e.handed h.1 j.hands
   statement_right p (callee.Standard of) xs h all = procedure_right fits told looping p of xs all
   statement_right p callee.Other xs h all = λ clear. absurd (true≢false clear.0)
 

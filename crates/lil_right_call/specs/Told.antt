@@ -3,14 +3,13 @@ use Rattle.std.proofs.Common.{◌≡◌, ◌⊎◌, inl, inr, ℕ, ◌<◌, ◌�
 use Rattle.lil_types.specs.Types.{Table, base}
 use Rattle.lil_declared.specs.declared.declared.RVar.{RVar}
 use Rattle.lil_scope.specs.Built.{resident_built}
-use Rattle.lil_kinds.specs.Forms.{parameters, result}
 use Rattle.lil_resolved.specs.declared.resolved.{RBase.RBase, RNamed.RNamed}
 use Rattle.lil_shapes.specs.{Bases.base_at, ListLaws.AllFine, Pointers.lies_at}
 use Rattle.lil_forms.specs.Properties.{Property, Reach}
 use Rattle.lil_call.specs.{Passing.all_have_values, declared.call.{Argument.Argument, Callee.Callee}}
 use Rattle.lil_call.specs.declared.call.Argument.TheVariants as argument
 use Rattle.lil_call.specs.declared.call.Callee.TheVariants as callee
-use Rattle.lil_right_type.specs.{Found.{IsFound, HeadingTold, signature}, Right.IsThere, Typed.Yields}
+use Rattle.lil_right_type.specs.{Found.{IsFound, HeadingTold, IsSigned, signature}, Right.IsThere, Typed.Yields}
 
 module _ {t : Table} {vs : RNamed → Option RVar} {around : List ℕ} {R : Reach} (P : Property t vs around R) where
   -- an argument is a value that is told, or a type in whose variables something lies; or it is missing, and then W is so
@@ -47,6 +46,6 @@ module _ {t : Table} {vs : RNamed → Option RVar} {around : List ℕ} {R : Reac
   abbrev pub CalleeTold : Callee → Type 0
   CalleeTold (callee.Procedure s n levels) = HeadingTold t s × R s n levels × (n < 255) × (levels < 256)
   CalleeTold (callee.Variable s d o) = (d ≤ 12) × ((g : RBase) → base_at t (base t s) ≡ Some g → IsThere (Yields P g d) o)
-  CalleeTold (callee.Resident r s) = (parameters t s ≡ signature r) × (result t s ≡ None) × (resident_built r ≡ true)
+  CalleeTold (callee.Resident r s) = IsSigned t s (signature r) × (resident_built r ≡ true)
   CalleeTold (callee.Standard of) = Unit {0}
   CalleeTold callee.Other = Unit {0}

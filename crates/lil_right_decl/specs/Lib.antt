@@ -3,6 +3,7 @@ pub mod Constants
 pub mod Filled
 pub mod Headings
 pub mod Imported
+pub mod Origins
 pub mod Parameters
 pub mod Room
 pub mod Shown

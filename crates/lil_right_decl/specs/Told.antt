@@ -11,7 +11,7 @@ use Rattle.lil_check_value.specs.Looks.{not_built, type_named}
 use Rattle.lil_check_type.specs.{Made.Made, Sorts.sort_means}
 use Rattle.lil_check_decl.specs.{Constants.constant_step, Decls.{type_thing, form_means, type_step, variables_step, bare, pointing, wait_step, settled, block_end, Means, Sense, expecting, decl_layer, block_layer, decl_sense, decl_step, procedure_means, decls_inside, decls_mean}, Headings.{variable_step, here, heading_means}}
 use Rattle.lil_check_stmt.specs.Texts.{Texts, texts_in, texts, no_constant, no_type, no_variables, with_block}
-use Rattle.lil_interfaces.specs.{Interfaces.residents, Imports.{imports_mean, nothing_imported, export_step, exports_mean}, declared.importing.{Taken.Taken}}
+use Rattle.lil_interfaces.specs.{Interfaces.residents, Sources.Sources, Imports.{imports_mean, nothing_imported, export_step, exports_mean}}
 use Rattle.lil_right_type.specs.Right.{Right, IsAny, after_right}
 use Rattle.lil_right_sort.specs.{Growth.{Few, IsThing, Declared, declared_waits}, Simple.{Begun, later_same, SortTold, sort_later, walk_keeps, named_right}, Sorts.sort_right}
 use Rattle.lil_right_value.specs.Names.{Lies}
@@ -181,12 +181,12 @@ unfolding decls_mean decls_inside after
 decls_settled e ds = let f = (walk decl_step (expecting e (map decl_sense ds)) ds).0 in waits_settled (settled 0 f) f.waits
 
 -- ---- a text
-exports_told : (P : Env → Type 0) (ts : List Taken) (e : Env) (xs : Option (List Ident)) → P e → Right P (exports_mean ts e xs)
+exports_told : (P : Env → Type 0) (ts : Sources) (e : Env) (xs : Option (List Ident)) → P e → Right P (exports_mean ts e xs)
 unfolding export_step
 exports_told P ts e None h = λ clear. h
 exports_told P ts e (Some xs) h = walk_keeps P (export_step ts) (λ f x j clear. j) e xs h
 
-exports_settled : (ts : List Taken) (e : Env) (xs : Option (List Ident)) → e.waits ≡ [] → (exports_mean ts e xs).0.waits ≡ []
+exports_settled : (ts : Sources) (e : Env) (xs : Option (List Ident)) → e.waits ≡ [] → (exports_mean ts e xs).0.waits ≡ []
 unfolding export_step after
 exports_settled ts e None h = h
 exports_settled ts e (Some xs) h = each e xs h

@@ -15,7 +15,7 @@ use Rattle.lil_scope.specs.declared.thing.Thing.TheVariants as thing
 use Rattle.lil_kinds.specs.{Forms.{form_in, shape, span_in, of_form, parameters, parameters_of, parameters_in, result, result_of}}
 use Rattle.lil_shapes.specs.{BaseLaws.kind_base, Bases.{plain, base_by, base_form, base_at, kind_over, kind_at, is_composite, composite_at, composite_by}, ListLaws.AllFine, Pointers.lies_at, ShapeSound.{at_end, earlier}}
 use Rattle.lil_forms.specs.Scopes.{fine_more}
-use Rattle.lil_right_type.specs.{Homes.{Longer, AllLonger, IsPlain, Allowed, homed_bound, homed_begun, homed_more}, Types.{HasNumbers, HasSpan, PassedTold, FormTold, IsTold, IsOrdinal, meant_is, own_base, known_ordinal, entry_known}, Words.{FormMeasured, AreMeasured}, Parts.base_itself, Found.{KindTold, ParameterTold, ResultTold, HeadingTold, AreHeaded, ThingTold, EnvTold}}
+use Rattle.lil_right_type.specs.{Homes.{Longer, AllLonger, IsPlain, Allowed, homed_bound, homed_begun, homed_more}, Types.{HasNumbers, HasSpan, PassedTold, FormTold, IsTold, IsOrdinal, meant_is, own_base, known_ordinal, entry_known}, Words.{FormMeasured, AreMeasured}, Parts.base_itself, Found.{KindTold, ParameterTold, ResultTold, HeadingTold, AreHeaded, IsSigned, signature, ThingTold, EnvTold}}
 use Rattle.lil_right_value.specs.Names.{Told, bound_at_is}
 pub use Rattle.lil_right_type.specs.{Right.all_then, Homes.last_there}
 
@@ -220,6 +220,10 @@ module _ {to : ℕ} (t u : Table) (told : IsTold t) (kept : Kept to t u) where
       let same = same_signature s here in
       (subst (AllFine (ParameterTold u)) (sym same.0) (all_then (ParameterTold t) (ParameterTold u) parameter_stays (parameters t s) h.0), subst (ResultTold u) (sym same.1) (result_stays (result t s) h.1))
 
+  signed_stays : (s : ℕ) (o : Option (List Parameter)) → s < next t → IsSigned t s o → IsSigned u s o
+  signed_stays s None here h = h
+  signed_stays s (Some ps) here h = let same = same_signature s here in (same.0 ∙ h.0, same.1 ∙ h.1)
+
   -- as more texts are declared too
   module _ (texts more : List (List ℕ)) (kept_texts : Longer texts more) where
     thing_stays : (x : Thing) → IsIn t x → ThingTold t texts x → ThingTold u more x
@@ -228,7 +232,7 @@ module _ {to : ℕ} (t u : Table) (told : IsTold t) (kept : Kept to t u) where
     thing_stays (thing.Variable v) here h = lies_stays v.sort h
     thing_stays (thing.Type s) here h = λ so. lies_stays s (h so)
     thing_stays (thing.Procedure x) here h = heading_stays x.sort here h
-    thing_stays (thing.Resident x s) here h = let same = same_signature s here in (same.0 ∙ h.0, same.1 ∙ h.1)
+    thing_stays (thing.Resident x s) here h = signed_stays s (signature x) here h
     thing_stays _ here h = h
 
   in_stays : (x : Thing) → IsIn t x → IsIn u x

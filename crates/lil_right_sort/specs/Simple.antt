@@ -121,7 +121,7 @@ base_right t p (Some n) clear h =
     subst (λ c. IsThere (PartsTold t) (if c then Some (form.SetOf n) else None)) (sym short) (s.0, s.1, s.2, s.3)
 
 -- ---- enumerations: their constants are words
-entry_words : (t : Table) → IsTold t → (n : ℕ) (o : Origin) (f : Facts) (xs : List (List ℕ)) → entry t n ≡ Some (record { origin = o; form = form.Enumeration xs; facts = f }) → (w : ℕ) → w < length xs → HasWord t n w
+pub entry_words : (t : Table) → IsTold t → (n : ℕ) (o : Origin) (f : Facts) (xs : List (List ℕ)) → entry t n ≡ Some (record { origin = o; form = form.Enumeration xs; facts = f }) → (w : ℕ) → w < length xs → HasWord t n w
 entry_words t told n o f xs is w h = (b.Enumeration (length xs), at, refl, within w (length xs) h)
   where
     fits : nat_le (length xs) 65535 ≡ true

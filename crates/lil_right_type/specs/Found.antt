@@ -167,26 +167,41 @@ AreHeaded (p ∷ ps) [] = ⊥
 AreHeaded (p ∷ ps) (v ∷ vs) = (v.sort ≡ p.sort) × (v.mode ≡ passing_by p) × AreHeaded ps vs
 
 -- ---- names
--- the parameters of each resident procedure
+-- the parameters of each resident procedure, but for those in whose headings a type of their own module stands
 abbrev pub value : ℕ → Parameter
 value s = record { by_place = false; open_array = false; sort = s }
 
 abbrev pub place : ℕ → Parameter
 place s = record { by_place = true; open_array = false; sort = s }
 
-abbrev pub signature : Resident → List Parameter
-signature r.Read = place char ∷ []
-signature r.Write = value char ∷ []
-signature r.WriteString = record { by_place = false; open_array = true; sort = char } ∷ []
-signature r.WriteLn = []
-signature r.WriteCard = value cardinal ∷ value cardinal ∷ []
-signature r.WriteInt = value integer ∷ value cardinal ∷ []
-signature r.WriteOct = value cardinal ∷ value cardinal ∷ []
-signature r.WriteHex = value cardinal ∷ value cardinal ∷ []
-signature r.Allocate = place address ∷ value cardinal ∷ []
-signature r.Deallocate = place address ∷ value cardinal ∷ []
-signature r.NewProcess = value proc ∷ value address ∷ value cardinal ∷ place process ∷ []
-signature r.Transfer = place process ∷ place process ∷ []
+abbrev pub signature : Resident → Option (List Parameter)
+signature r.Read = Some (place char ∷ [])
+signature r.Write = Some (value char ∷ [])
+signature r.WriteString = Some (record { by_place = false; open_array = true; sort = char } ∷ [])
+signature r.WriteLn = Some []
+signature r.WriteCard = Some (value cardinal ∷ value cardinal ∷ [])
+signature r.WriteInt = Some (value integer ∷ value cardinal ∷ [])
+signature r.WriteOct = Some (value cardinal ∷ value cardinal ∷ [])
+signature r.WriteHex = Some (value cardinal ∷ value cardinal ∷ [])
+signature r.Allocate = Some (place address ∷ value cardinal ∷ [])
+signature r.Deallocate = Some (place address ∷ value cardinal ∷ [])
+signature r.NewProcess = Some (value proc ∷ value address ∷ value cardinal ∷ place process ∷ [])
+signature r.Transfer = Some (place process ∷ place process ∷ [])
+signature r.Lookup = None
+signature r.CloseFile = None
+signature r.Reset = None
+signature r.ReadChar = None
+signature r.WriteChar = None
+signature r.Call = None
+signature r.OpenChannel = None
+signature r.PutWord = None
+signature r.GetWord = None
+signature r.CloseChannel = None
+
+-- a type is that of a proper procedure with these parameters, where they are told
+abbrev pub IsSigned : Table → ℕ → Option (List Parameter) → Type 0
+IsSigned types s None = Unit {0}
+IsSigned types s (Some ps) = (parameters types s ≡ ps) × (result types s ≡ None)
 
 -- what a name stands for is told, by the types and the texts of constants
 abbrev pub ThingTold : Table → List (List ℕ) → Thing → Type 0
@@ -196,7 +211,9 @@ ThingTold types texts t.Nil = Unit {0}
 ThingTold types texts (t.Variable v) = lies_at types v.sort ≡ true
 ThingTold types texts (t.Type s) = built (t.Type s) ≡ true → lies_at types s ≡ true
 ThingTold types texts (t.Procedure x) = HeadingTold types x.sort
-ThingTold types texts (t.Resident x s) = (parameters types s ≡ signature x) × (result types s ≡ None)
+ThingTold types texts (t.ExternalVariable v) = Unit {0}
+ThingTold types texts (t.ExternalProcedure x) = Unit {0}
+ThingTold types texts (t.Resident x s) = IsSigned types s (signature x)
 ThingTold types texts (t.Standard x) = Unit {0}
 ThingTold types texts (t.Module b) = Unit {0}
 ThingTold types texts t.Hidden = Unit {0}

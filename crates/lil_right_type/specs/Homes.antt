@@ -238,6 +238,8 @@ abbrev pub Allowed : ℕ → List RProc → List RVar → List (List RVar) → �
 Allowed count ps vs ls b (thing.Procedure r) = ⊥
 Allowed count ps vs ls b (thing.Variable v) = IsOwn ps vs ls b v
 Allowed count ps vs ls b (thing.Module k) = IsModule count ps k
+Allowed count ps vs ls b (thing.ExternalVariable v) = Unit {0}
+Allowed count ps vs ls b (thing.ExternalProcedure x) = Unit {0}
 Allowed count ps vs ls b _ = Unit {0}
 
 -- ---- more procedures and variables

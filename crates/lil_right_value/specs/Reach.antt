@@ -102,6 +102,7 @@ module _ {t : Table} {vs : RNamed → Option RVar} {around : List ℕ} {R : Reac
 -- what else a name means: it is built, and no variable
 abbrev pub is_other : Thing → Bool
 is_other (t.Variable v) = false
+is_other (t.ExternalVariable v) = false
 is_other t.Hidden = false
 is_other t.Broken = false
 is_other _ = true
@@ -144,6 +145,7 @@ module _ (e : Env) (P : Property e.types (seen e) e.withs (reach e)) (told : Env
 
   named_told : (p q : Place) (x : Thing) → SeenTold e x → built x ≡ true → is_hidden_thing x ≡ false → IsThere ReachedTold (thing_reached e p q x)
   named_told p q (t.Variable v) h is seen = variable_told p q v h
+  named_told p q (t.ExternalVariable v) h is seen = absurd (true≢false (sym is))
   named_told p q t.Hidden h is seen = absurd (true≢false seen)
   named_told p q t.Broken h is seen = absurd h.0
   named_told p q (t.Constant c) h is seen = (h.0, is, refl, h.1)
@@ -151,6 +153,7 @@ module _ (e : Env) (P : Property e.types (seen e) e.withs (reach e)) (told : Env
   named_told p q t.Nil h is seen = (h.0, is, refl, h.1)
   named_told p q (t.Type s) h is seen = (h.0, is, refl, h.1)
   named_told p q (t.Procedure x) h is seen = (h.0, is, refl, h.1)
+  named_told p q (t.ExternalProcedure x) h is seen = absurd (true≢false (sym is))
   named_told p q (t.Resident x s) h is seen = (h.0, is, refl, h.1)
   named_told p q (t.Standard x) h is seen = (h.0, is, refl, h.1)
   named_told p q (t.Module n) h is seen = (h.0, is, refl, h.1)
@@ -373,6 +376,8 @@ module _ (e : Env) (P : Property e.types (seen e) e.withs (reach e)) (told : Env
         some = omega arith;
         few = omega arith;
       })
+      by (t.ExternalVariable v) h c d = absurd (true≢false (sym h.1))
+      by (t.ExternalProcedure x) h c d = absurd (true≢false (sym h.1))
       by (t.Resident x s) h c d = absurd (true≢false d)
       by (t.Standard x) h c d = absurd (true≢false d)
       by (t.Module n) h c d = absurd (true≢false c)
@@ -396,7 +401,9 @@ module _ (e : Env) (P : Property e.types (seen e) e.withs (reach e)) (told : Env
   callee_told (t.Variable v) h c = absurd (true≢false (sym h.2))
   callee_told (t.Type s) h c = absurd (true≢false c)
   callee_told (t.Procedure x) h c = (h.0, h.3, omega (arith, h.3.low), h.3.few)
-  callee_told (t.Resident x s) h c = (h.0.0, h.0.1, h.1)
+  callee_told (t.ExternalVariable v) h c = absurd (true≢false (sym h.1))
+  callee_told (t.ExternalProcedure x) h c = absurd (true≢false (sym h.1))
+  callee_told (t.Resident x s) h c = (h.0, h.1)
   callee_told (t.Standard x) h c = tt
   callee_told (t.Module n) h c = absurd (true≢false c)
   callee_told t.Hidden h c = absurd (true≢false (sym h.2))
@@ -417,6 +424,8 @@ module _ (e : Env) (P : Property e.types (seen e) e.withs (reach e)) (told : Env
   type_told p t.Nil h c = absurd (true≢false c)
   type_told p (t.Variable v) h c = absurd (true≢false c)
   type_told p (t.Procedure x) h c = absurd (true≢false c)
+  type_told p (t.ExternalVariable v) h c = absurd (true≢false c)
+  type_told p (t.ExternalProcedure x) h c = absurd (true≢false c)
   type_told p (t.Resident x s) h c = absurd (true≢false c)
   type_told p (t.Standard x) h c = absurd (true≢false c)
   type_told p (t.Module n) h c = absurd (true≢false c)

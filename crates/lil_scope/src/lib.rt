@@ -19,4 +19,6 @@ pub use env::{Env, Wait, Waits, Withs};
 pub use locals::Locals;
 pub use names::{bind, bind_at, find_in, is_later, waits_for};
 pub use scope::{Blocks, Scopes};
-pub use thing::{Bound, Chars, Entry, Kind, Routine, Thing, Variable};
+pub use thing::{
+    Bound, Chars, Entry, ExternalProcedure, ExternalVariable, Kind, Routine, Thing, Variable,
+};

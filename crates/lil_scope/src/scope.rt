@@ -55,6 +55,12 @@ impl Block {
         }
     }
 
+    fn len(&self) -> usize
+        ensures { result ≡ length self.now }
+    {
+        self.names.len()
+    }
+
     /// Its names in their order, and what they stand for.
     fn all(&self, alloc: Global) -> Result<Items<Bound>, Memory>
         ensures { IfOk result (λ bs. bs ≡ map spec.bound_of self.now) }
@@ -124,6 +130,16 @@ impl Blocks {
         match self.list.get(number) {
             Some(block) => block.all(alloc),
             None => Ok(Items::new(alloc)),
+        }
+    }
+
+    /// How many names a block has.
+    pub fn len_of(&self, number: usize) -> usize
+        ensures { result ≡ length (spec.block_at self.now number) }
+    {
+        match self.list.get(number) {
+            Some(block) => block.len(),
+            None => 0,
         }
     }
 

@@ -43,6 +43,24 @@ pub struct Routine {
     pub sort: TypeId,
 }
 
+/// A variable of another module: the number of the block of that module's names, where it lies among the module's data, in words,
+/// and its type.
+#[derive(Clone, Copy)]
+pub struct ExternalVariable {
+    pub module: usize,
+    pub offset: u32,
+    pub sort: TypeId,
+}
+
+/// A procedure of another module that isn't resident: the number of the block of that module's names, its number there, from 1,
+/// and its procedure type.
+#[derive(Clone, Copy)]
+pub struct ExternalProcedure {
+    pub module: usize,
+    pub number: u32,
+    pub sort: TypeId,
+}
+
 /// What a name stands for. The constant of a text has the text's number. A resident procedure has its procedure type, and
 /// a module the number of the block of its names. A name that a definition declares and doesn't export is
 /// hidden, and one whose declaration has a fault is broken.
@@ -54,6 +72,8 @@ pub enum Thing {
     Variable(Variable),
     Type(TypeId),
     Procedure(Routine),
+    ExternalVariable(ExternalVariable),
+    ExternalProcedure(ExternalProcedure),
     Resident(Resident, TypeId),
     Standard(Standard),
     Module(usize),

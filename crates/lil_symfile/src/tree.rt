@@ -55,7 +55,7 @@ pub enum Form {
 /// form.
 #[derive(Drop)]
 pub struct SymType {
-    pub origin: u32,
+    pub origin: usize,
     pub number: TypeNumber,
     pub form: Form,
 }

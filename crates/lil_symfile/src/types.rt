@@ -247,18 +247,18 @@ fn form(alloc: Global, source: &mut Source<'_>, count: usize, kinds: &[Kind]) ->
 
 // ---- types
 
-fn origin(source: &mut Source<'_>, rested: usize) -> Result<u32, Stop>
+fn origin(source: &mut Source<'_>, rested: usize) -> Result<usize, Stop>
     ensures { Reads (number_in u1 (such (spec.is_origin rested)) source.old) result source.new }
 {
     let here = source.left();
     match source.byte() {
         None => Err(Stop::Left(0)),
-        Some(n) if usize::from(n) <= rested => Ok(u32::from(n)),
+        Some(n) if usize::from(n) <= rested => Ok(usize::from(n)),
         Some(_) => Err(Stop::Left(here)),
     }
 }
 
-fn number_fits(before: usize, origin: u32, n: TypeNumber) -> bool
+fn number_fits(before: usize, origin: usize, n: TypeNumber) -> bool
     ensures { result ≡ spec.number_fits before origin n }
 {
     if origin == 0 {
@@ -268,7 +268,7 @@ fn number_fits(before: usize, origin: u32, n: TypeNumber) -> bool
     }
 }
 
-fn number(source: &mut Source<'_>, before: usize, origin: u32) -> Result<TypeNumber, Stop>
+fn number(source: &mut Source<'_>, before: usize, origin: usize) -> Result<TypeNumber, Stop>
     ensures { Reads (number_in u2 (such (spec.number_fits before origin)) source.old) result source.new }
 {
     let here = source.left();

@@ -1,7 +1,7 @@
 -- How many numbers a span has, the words of a record's fields, added up from the first one on, and tables that stay sound.
 use Rattle.std.proofs.Common.{◌≡◌, ℕ, ◌+◌, nat_le, ℤ, pos, negsuc, int_lt, nat_abs, Bool, true, false, ◌&&◌, List, [], ◌∷◌, ◌++◌, length, Option, Some, None, refl, append_assoc, arith}
 use Rattle.std.proofs.lemmas.{List.append-nil, Bool.Decides.nat_tests}
-use Rattle.lil_types.specs.{declared.table.{Facts.Facts, TypeEntry.TypeEntry}, Types.{Table, nat_of, facts_of, record_facts, IsSound, IsSoundFrom}, Adding.{fitting, is_short, limited}}
+use Rattle.lil_types.specs.{declared.table.{Facts.Facts, TypeEntry.TypeEntry}, Types.{Table, nat_of, facts_of, record_facts, IsSound, IsSoundFrom}, Adding.{fitting, is_short, stopped, stopped_some, lasting}}
 
 pub no_less : (z : ℤ) → int_lt z (pos 0) ≡ false → nat_abs z ≡ nat_of z
 no_less (pos n) h = refl
@@ -12,9 +12,21 @@ abbrev pub plus : ℕ → Option ℕ → Option ℕ
 plus n None = None
 plus n (Some m) = Some (n + m)
 
-pub record_fits : (n : ℕ) (words : Option ℕ) → record_facts n (limited words) ≡ fitting (record_facts n words)
-record_fits n None = refl
-record_fits n (Some w) = grind (arith, nat_tests)
+pub record_lasts : (n : ℕ) (words : Option ℕ) → record_facts n (stopped_some words) ≡ lasting (record_facts n words)
+record_lasts n None = refl
+record_lasts n (Some w) = refl
+
+-- as many words as a type may have are fewer than those at which sums stop
+pub fits_stopped : (o : Option Facts) → fitting (lasting o) ≡ fitting o
+fits_stopped None = refl
+fits_stopped (Some f) = by (nat_le f.words 32000) refl
+  where
+    by : (b : Bool) → nat_le f.words 32000 ≡ b → fitting (lasting (Some f)) ≡ fitting (Some f)
+    by b h = grind (arith, nat_tests)
+
+-- words at which sums have stopped stay so
+pub stops_once : (n m : ℕ) → stopped (m + stopped n) ≡ stopped (m + n)
+stops_once n m = grind (arith, nat_tests)
 
 -- one more sound type at the end
 pub sound_more : (before : Table) (n : ℕ) (xs : List TypeEntry) (e : TypeEntry) → IsSoundFrom before n xs → facts_of (before ++ xs) (n + length xs) e.form ≡ Some e.facts → IsSoundFrom before n (xs ++ e ∷ [])

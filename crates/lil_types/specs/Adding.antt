@@ -1,6 +1,6 @@
 -- One more type at a table's end: which forms it takes, and what is then known.
-use Rattle.std.specs.Prelude.{ℕ, ◌+◌, nat_le, nat_lt, pos, negsuc, int_lt, Bool, true, not, ◌&&◌, [], ◌∷◌, ◌++◌, length, Option, Some, None, if◌then◌else◌}
-use Rattle.lil_types.specs.{declared.table.{Origin.Origin, Span.Span, Facts.Facts, TypeForm.TypeForm}, Types.{Table, facts_of}}
+use Rattle.std.specs.Prelude.{ℕ, ◌+◌, nat_le, nat_lt, min, pos, negsuc, int_lt, Bool, true, not, ◌&&◌, [], ◌∷◌, ◌++◌, length, Option, Some, None, if◌then◌else◌}
+use Rattle.lil_types.specs.{declared.table.{Origin.Origin, Span.Span, Facts.Facts, TypeForm.TypeForm}, Types.{Table, facts, plain, facts_of}}
 
 -- the number that the next type gets
 abbrev pub next : Table → ℕ
@@ -16,10 +16,17 @@ abbrev pub fitting : Option Facts → Option Facts
 fitting None = None
 fitting (Some f) = if nat_le f.words 32000 && is_short f.span then Some f else None
 
--- as many words as a type may have
-abbrev pub limited : Option ℕ → Option ℕ
-limited None = None
-limited (Some words) = if nat_le words 32000 then Some words else None
+-- sums of words stop at 4294967295
+abbrev pub stopped : ℕ → ℕ
+stopped words = min words 4294967295
+
+abbrev pub stopped_some : Option ℕ → Option ℕ
+stopped_some None = None
+stopped_some (Some words) = Some (stopped words)
+
+abbrev pub lasting : Option Facts → Option Facts
+lasting None = None
+lasting (Some f) = Some (facts f.base (stopped f.words) f.span)
 
 -- whether there is a number left, below 4294967295
 abbrev pub has_room : Table → Bool
@@ -53,3 +60,12 @@ own t = record { «module» = 0; number = next_number t }
 -- the table with the type, where it takes it, and else as before
 abbrev pub added : Table → Origin → TypeForm → Table
 added t origin form = with_facts t origin form (next_facts t form)
+
+-- ---- a type of another module, which may have any length
+abbrev pub facts_or : ℕ → Option Facts → Facts
+facts_or n None = plain n
+facts_or n (Some f) = f
+
+-- the table with it. Where its parts don't make a type it has a word
+abbrev pub appended : Table → Origin → TypeForm → Table
+appended t origin form = t ++ record { origin = origin; form = form; facts = facts_or (next t) (lasting (facts_of t (next t) form)) } ∷ []

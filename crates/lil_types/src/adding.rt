@@ -6,21 +6,19 @@ use crate::relations::known;
 use crate::table::{Facts, Field, Origin, Span, TypeEntry, TypeForm, TypeId, TypeTable};
 use lil_base::{Memory, whole_difference};
 
-fn enumeration(n: TypeId, names: usize) -> Option<Facts>
-    ensures { result ≡ spec.fitting (Some (types.enumeration_facts n names)) }
+fn enumeration(n: TypeId, names: usize) -> Facts
+    ensures { result ≡ types.enumeration_facts n names }
 {
     let high = names.min(65536) as i32 - 1;
-    Some(Facts::ordinal(n, 0, high))
+    Facts::ordinal(n, 0, high)
 }
 
 fn subrange(of: Option<Facts>, span: Span) -> Option<Facts>
-    ensures { result ≡ spec.fitting (types.subrange_facts of span) }
+    ensures { result ≡ spec.lasting (types.subrange_facts of span) }
 {
     match of {
-        Some(facts) if span.low >= -32768 && span.high <= 65535 => Some(Facts::ordinal(
-            facts.base, span.low, span.high,
-        )),
-        _ => None,
+        Some(facts) => Some(Facts::ordinal(facts.base, span.low, span.high)),
+        None => None,
     }
 }
 
@@ -34,14 +32,11 @@ pub fn values(low: i32, high: i32) -> u64
     if count < 0 { 0 } else { count as u64 }
 }
 
-/// As many words as a type may have, None where there are more.
-fn limited(words: u64) -> Option<u32>
-    ensures { result ≡ spec.limited (Some words) }
+/// A sum of words, which stops at 4,294,967,295.
+fn stopped(words: u64) -> u32
+    ensures { result ≡ spec.stopped words }
 {
-    if words > 32_000 {
-        return None;
-    }
-    Some(words as u32)
+    words.min(4_294_967_295) as u32
 }
 
 fn record_of(n: TypeId, words: Option<u32>) -> Option<Facts>
@@ -53,16 +48,15 @@ fn record_of(n: TypeId, words: Option<u32>) -> Option<Facts>
     }
 }
 
-#[tactic(auto, using(crate::proofs::Sums::record_fits))]
 fn array_of_span(n: TypeId, span: Span, element: Facts) -> Option<Facts>
-    ensures { result ≡ spec.fitting (types.array_of_span n (Some span) element) }
+    ensures { result ≡ spec.lasting (types.array_of_span n (Some span) element) }
 {
     let words = values(span.low, span.high) * u64::from(element.words);
-    record_of(n, limited(words))
+    Some(Facts::other(n, stopped(words)))
 }
 
 fn array(n: TypeId, index: Option<Facts>, element: Option<Facts>) -> Option<Facts>
-    ensures { result ≡ spec.fitting (types.array_facts n index element) }
+    ensures { result ≡ spec.lasting (types.array_facts n index element) }
 {
     match (index, element) {
         (
@@ -78,19 +72,19 @@ fn array(n: TypeId, index: Option<Facts>, element: Option<Facts>) -> Option<Fact
     }
 }
 
-/// The words of a field and of those before it, None where they are too many or the field has no type.
+/// The words of a field and of those before it, None where the field has no type.
 fn more(sum: u32, field: Option<Facts>) -> Option<u32>
-    ensures { result ≡ spec.limited (types.sum_of field (Some sum)) }
+    ensures { result ≡ spec.stopped_some (types.sum_of field (Some sum)) }
 {
     match field {
-        Some(facts) => limited(u64::from(facts.words) + u64::from(sum)),
+        Some(facts) => Some(stopped(u64::from(facts.words) + u64::from(sum))),
         None => None,
     }
 }
 
 /// The words of fields one after another.
 fn fields_words(t: &TypeTable, fields: &[Field]) -> Option<u32>
-    ensures { result ≡ spec.limited (types.fields_words t.now fields.now) }
+    ensures { result ≡ spec.stopped_some (types.fields_words t.now fields.now) }
 {
     let mut sum = 0;
     for field in fields {
@@ -103,12 +97,12 @@ fn fields_words(t: &TypeTable, fields: &[Field]) -> Option<u32>
 }
 
 /// The facts of a form that has the number `n`.
-#[tactic(auto, using(crate::proofs::Sums::record_fits))]
+#[tactic(auto, using(crate::proofs::Sums::record_lasts))]
 fn facts_of(t: &TypeTable, n: TypeId, form: &TypeForm) -> Option<Facts>
-    ensures { result ≡ spec.fitting (types.facts_of t.now n form.now) }
+    ensures { result ≡ spec.lasting (types.facts_of t.now n form.now) }
 {
     match form {
-        TypeForm::Enumeration(names) => enumeration(n, names.len()),
+        TypeForm::Enumeration(names) => Some(enumeration(n, names.len())),
         TypeForm::Subrange(of, span) => subrange(known(t, *of), *span),
         TypeForm::Array(index, element) => array(n, known(t, *index), known(t, *element)),
         TypeForm::Record(fields) => record_of(n, fields_words(t, fields.as_slice())),
@@ -117,6 +111,32 @@ fn facts_of(t: &TypeTable, n: TypeId, form: &TypeForm) -> Option<Facts>
         | TypeForm::Procedure(_, _)
         | TypeForm::Opaque(_) => Some(Facts::other(n, 1)),
     }
+}
+
+fn is_short(span: Option<Span>) -> bool
+    ensures { result ≡ spec.is_short span }
+{
+    match span {
+        Some(span) => span.low >= -32768 && span.high <= 65535,
+        None => true,
+    }
+}
+
+fn fitting(facts: Option<Facts>) -> Option<Facts>
+    ensures { result ≡ spec.fitting facts }
+{
+    match facts {
+        Some(facts) if facts.words <= 32_000 && is_short(facts.span) => Some(facts),
+        _ => None,
+    }
+}
+
+/// The facts of a form that has the number `n`, None where the type is too long.
+#[tactic(auto, using(crate::proofs::Sums::fits_stopped))]
+fn fitting_facts(t: &TypeTable, n: TypeId, form: &TypeForm) -> Option<Facts>
+    ensures { result ≡ spec.fitting (types.facts_of t.now n form.now) }
+{
+    fitting(facts_of(t, n, form))
 }
 
 /// The number of the next type, 0 where there is none left.
@@ -153,7 +173,7 @@ pub fn add(t: &mut TypeTable, origin: Origin, form: TypeForm) -> Result<Option<T
         return Ok(None);
     }
     let n = t.len() as TypeId + 16;
-    match facts_of(t, n, &form) {
+    match fitting_facts(t, n, &form) {
         None => Ok(None),
         Some(facts) => {
             t.push(TypeEntry {
@@ -164,4 +184,30 @@ pub fn add(t: &mut TypeTable, origin: Origin, form: TypeForm) -> Result<Option<T
             Ok(Some(n))
         }
     }
+}
+
+fn facts_or(n: TypeId, facts: Option<Facts>) -> Facts
+    ensures { result ≡ spec.facts_or n facts }
+{
+    match facts {
+        Some(facts) => facts,
+        None => Facts::other(n, 1),
+    }
+}
+
+/// Appends a type of another module, which may have any length: sums of words stop at 4,294,967,295. Want of memory is told
+/// too where the table has 4,294,967,279 types.
+pub fn append(t: &mut TypeTable, origin: Origin, form: TypeForm) -> Result<(), Memory>
+    ensures { IfOk result (λ o. t.new ≡ spec.appended t.old origin form) }
+{
+    if t.len() >= 4_294_967_279 {
+        return Err(Memory);
+    }
+    let n = t.len() as TypeId + 16;
+    let facts = facts_or(n, facts_of(t, n, &form));
+    t.push(TypeEntry {
+        origin,
+        form,
+        facts,
+    })
 }

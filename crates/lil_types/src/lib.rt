@@ -7,7 +7,7 @@ mod folding;
 mod relations;
 mod table;
 
-pub use adding::{add, own, values};
+pub use adding::{add, append, own, values};
 pub use fields::{FieldAt, Fields};
 pub use folding::{fits, fold_one, fold_two};
 pub use relations::{assignable, base, compatible, entry, is_whole, known, meant, same, words};

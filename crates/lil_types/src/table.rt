@@ -35,10 +35,11 @@ pub const ADDRESS: TypeId = 6;
 /// PROCESS, the type of coroutines.
 pub const PROCESS: TypeId = 7;
 
-/// The module to which a type belongs, 0 for the unit's own, and its number there.
-#[derive(Clone, Copy, PartialEq, Eq)]
+/// The module to which a type belongs, 0 for the unit's own and k for the k-th of those on which the unit rests, and its number
+/// there.
+#[derive(Clone, Copy, PartialEq, Eq, Hash)]
 pub struct Origin {
-    pub module: u8,
+    pub module: usize,
     pub number: TypeId,
 }
 

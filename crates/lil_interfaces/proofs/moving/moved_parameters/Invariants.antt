@@ -3,4 +3,4 @@ use Rattle.lil_interfaces.specs.Moving.{moved_parameter}
 use Rattle.lil_interfaces.proofs.moving.moved_parameters.Given as goal
 
 abbrev pub invariant-loop-one : goal.invariant-loop-one
-invariant-loop-one l = l.all ≡ map (moved_parameter l.start) (take l.one-index l.of)
+invariant-loop-one l = l.all ≡ map (moved_parameter l.numbers) (take l.one-index l.of)

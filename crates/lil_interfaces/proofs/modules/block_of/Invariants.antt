@@ -1,6 +1,6 @@
 use Rattle.std.proofs.Common.{◌≡◌, drop}
 use Rattle.lil_interfaces.specs.Imports.{block_of}
-use Rattle.lil_interfaces.proofs.importing.block_of.Given as goal
+use Rattle.lil_interfaces.proofs.modules.block_of.Given as goal
 
 -- none of those before has the name
 abbrev pub invariant-loop-one : goal.invariant-loop-one

@@ -1,0 +1,6 @@
+use Rattle.std.proofs.Common.{◌≡◌, take, map}
+use Rattle.lil_iface.specs.Known.{field_in}
+use Rattle.lil_iface.proofs.known.fields_in.Given as goal
+
+abbrev pub invariant-loop-one : goal.invariant-loop-one
+invariant-loop-one l = l.all ≡ map field_in (take l.one-index l.of)
