@@ -1,15 +1,16 @@
 -- What a part's answer says of the whole.
 use Rattle.std.proofs.Common.{◌≡◌, ◌⊎◌, inl, inr, ℕ, ◌≤◌, false, List, take, Option, None, Some, Result, Ok, Err, refl, sym, ◌∙◌, ap, subst, arith}
-use Rattle.std.specs.{FinMap.get, Prelude.IsErrAnd}
+use Rattle.std.specs.{FinMap.get, Prelude.{IsErrAnd, MatchOption}}
 use Rattle.lil_base.specs.{Names.{book_file, file_of}, declared.{fault.{Key.Key, SourceFault.SourceFault}, name.FileKind.TheVariants.{Symbols as SymbolsFile}}}
 use Rattle.lil_text.specs.declared.stop.ReadStop.{ReadStop}
 use Rattle.lil_text.specs.declared.stop.ReadStop.TheVariants as stop
-use Rattle.lil_language.specs.{declared.unit.Unit.Unit as Tree, Units.{Reads, HasReadFault}}
 use Rattle.lil_volume.specs.{declared.outside.VolumeError.VolumeError, Causes.{Rose, VolumeCause}, Told.{Files, FileIs, with_file, with_writes}}
 use Rattle.lil_volume.specs.declared.outside.VolumeError.TheVariants as volume
-use Rattle.lil_compile.specs.{declared.{prepare.Prepared.Prepared, stop.CompileStop.CompileStop}, Compiled.{Compiled, IsCompiled, HasUnitFault, HasDefinitionFault}, Command.gives_way, Layers.{compiled_as, failed_by, stopped_by, IsOverFound, IsUnitMade, IsUnitWrong, IsTextMade, IsTextWrong, Ran, TextRan}}
+use Rattle.lil_book.specs.declared.book.Book.{Book}
+use Rattle.lil_imports.specs.{declared.stop.ImportStop.ImportStop, Ran.gives_way}
+use Rattle.lil_imports.specs.declared.stop.ImportStop.TheVariants as import
+use Rattle.lil_compile.specs.{declared.{prepare.Prepared.Prepared, stop.CompileStop.CompileStop}, Compiled.{Compiled, IsBook, IsDamaged}, Layers.{compiled_as, failed_by, stopped_by, imported_by, Ran}}
 use Rattle.lil_compile.specs.declared.stop.CompileStop.TheVariants as why
-use Rattle.lil_compile.proofs.Unique.{one_unit_fault, unit_apart, one_unit}
 
 -- what was found under a name in files that are told
 pub found_as : (files : Option Files) (m : Files) (name : List ℕ) (found : Option (List ℕ)) → files ≡ Some m → FileIs files name found → found ≡ get m name
@@ -18,6 +19,13 @@ found_as files m name found told is = subst (λ (f : Option Files). FileIs f nam
 pub some_found : (files : Option Files) (name : List ℕ) → (found : Option (List ℕ)) × FileIs files name found
 some_found None name = (None, tt)
 some_found (Some m) name = (get m name, refl)
+
+-- what was read of the book
+pub book_there : (found : Option (List ℕ)) {o : Option Book} {b : Book} → MatchOption o (IsDamaged found) (λ c. IsBook found c) → o ≡ Some b → IsBook found b
+book_there found h is = subst (λ (o : Option Book). MatchOption o (IsDamaged found) (λ c. IsBook found c)) is h
+
+pub book_damaged : (found : Option (List ℕ)) {o : Option Book} → MatchOption o (IsDamaged found) (λ c. IsBook found c) → o ≡ None → IsDamaged found
+book_damaged found h is = subst (λ (o : Option Book). MatchOption o (IsDamaged found) (λ c. IsBook found c)) is h
 
 -- what a `?` answered
 pub err_is : (r : Result Key CompileStop) (e : CompileStop) → IsErrAnd r (λ s. s ≡ e) → Err e ≡ r
@@ -83,6 +91,17 @@ module _ (Right : Compiled → Type 0) (Wrong : SourceFault → Type 0) (before 
   pub part_stopped : (r : Result Key CompileStop) (s : ReadStop) → IsErrAnd r (λ e. e ≡ stopped_by s) → ((f : SourceFault) → s ≡ stop.Fault f → Wrong f) → after ≡ before → after_faults ≡ before_faults → Here r
   part_stopped r s is wrong same quiet = subst Here (err_is r (stopped_by s) is) (ran_stopped s wrong same quiet)
 
+  ran_imported : (s : ImportStop) → ((f : SourceFault) → s ≡ import.Source f → Wrong f) → after ≡ before → before_faults ≤ after_faults
+      → (s ≡ import.Volume → Rose before_faults after_faults) → (gives_way (Err s) ≡ false → after_faults ≡ before_faults) → Here (Err (imported_by s))
+  ran_imported (import.Source f) wrong same later failed quiet = ran_wrong f (wrong f refl) same (quiet refl)
+  ran_imported import.Volume wrong same later failed quiet = ran_volume (inl same) later (failed refl)
+  ran_imported import.Memory wrong same later failed quiet = ran_memory (inl same) later
+
+  -- gathering stopped
+  pub part_imported : (r : Result Key CompileStop) (s : ImportStop) → IsErrAnd r (λ e. e ≡ imported_by s) → ((f : SourceFault) → s ≡ import.Source f → Wrong f) → after ≡ before
+      → before_faults ≤ after_faults → (s ≡ import.Volume → Rose before_faults after_faults) → (gives_way (Err s) ≡ false → after_faults ≡ before_faults) → Here r
+  part_imported r s is wrong same later failed quiet = subst Here (err_is r (imported_by s) is) (ran_imported s wrong same later failed quiet)
+
 -- ---- of one part the same holds as of another that says less
 pub ran_weaker : {R S : Compiled → Type 0} {W X : SourceFault → Type 0} {before after : Option Files} {n m : ℕ} {r : Result Key CompileStop}
     → ((c : Compiled) → R c → S c) → ((f : SourceFault) → W f → X f) → Ran R W before n after m r → Ran S X before n after m r
@@ -95,6 +114,12 @@ ran_weaker right wrong h = record {
   failed = h.failed;
   quiet = h.quiet;
 }
+
+-- ---- behind a call that changed no file and failed nowhere
+pub ran_behind : {R S : Compiled → Type 0} {W X : SourceFault → Type 0} {before mid after : Option Files} {n k m : ℕ} {r : Result Key CompileStop}
+    → mid ≡ before → k ≡ n → ((c : Compiled) → R c → S c) → ((f : SourceFault) → W f → X f) → Ran R W mid k after m r → Ran S X before n after m r
+ran_behind {R} {S} {W} {X} {before} {mid} {after} {n} {k} {m} {r} same quiet right wrong h =
+    ran_weaker right wrong (subst (λ (f : Option Files). Ran R W f n after m r) same (subst (λ (j : ℕ). Ran R W mid j after m r) quiet h))
 
 -- ---- the writes of what was made
 module _ (x : List ℕ) (made : Prepared) (before after : Option Files) where

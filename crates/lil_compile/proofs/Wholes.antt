@@ -1,10 +1,11 @@
 -- What holds of the answer of a compilation.
-use Rattle.std.proofs.Common.{◌≡◌, ◌⊎◌, inl, inr, ℕ, ◌≤◌, false, List, Option, None, Some, Result, Ok, Err, refl, sym, ◌∙◌, ap, subst, arith}
+use Rattle.std.proofs.Common.{◌≡◌, inl, inr, ℕ, ◌≤◌, List, Option, None, Some, Result, Err, refl, sym, ◌∙◌, subst, arith}
 use Rattle.std.specs.{FinMap.get, Prelude.IsErrAnd}
 use Rattle.lil_base.specs.{Names.book_file, declared.fault.{Key.Key, SourceFault.SourceFault}}
-use Rattle.lil_volume.specs.{declared.outside.VolumeError.VolumeError, Causes.{Rose, VolumeCause}, Told.{Files, FileIs, with_writes}}
+use Rattle.lil_volume.specs.{declared.outside.VolumeError.VolumeError, Causes.{Rose, VolumeCause}, Told.{Files, FileIs}}
 use Rattle.lil_volume.specs.declared.outside.VolumeError.TheVariants as volume
-use Rattle.lil_compile.specs.{declared.stop.CompileStop.CompileStop, Compiled.{Compiled, IsCompiled, HasDefinitionFault}, Command.{source_file, gives_way, IsMade, HasFault, IsWritten, DefinitionCompiled}, Layers.{failed_by, IsTextMade, IsTextWrong, Ran, TextRan}}
+use Rattle.lil_imports.specs.Ran.{Found}
+use Rattle.lil_compile.specs.{declared.stop.CompileStop.CompileStop, Compiled.{Compiled, IsCompiled, HasDefinitionFault}, Command.{source_file, IsMade, HasFault, DefinitionCompiled}, Layers.{failed_by, IsTextMade, IsTextWrong, TextRan}}
 use Rattle.lil_compile.specs.declared.stop.CompileStop.TheVariants as why
 use Rattle.lil_compile.proofs.Parts.{found_as, err_is}
 
@@ -86,15 +87,15 @@ module _ (x : List ℕ) (before : Option Files) (before_faults : ℕ) where
       same_text : (s : List ℕ) → FileIs before (source_file x) (Some s) → s ≡ text
       same_text s h = same_some s text (found_as before m (source_file x) (Some s) told h ∙ sym (found_as before m (source_file x) (Some text) told there))
 
-      compiled_here : (c : Compiled) → IsMade x before c → IsCompiled x text (get m book_file) c
+      compiled_here : (c : Compiled) → IsMade x before c → IsCompiled (Found before) x text (get m book_file) c
       compiled_here c h =
-          subst (λ (s : List ℕ). IsCompiled x s (get m book_file) c) (same_text h.text h.source)
-          (subst (λ (o : Option (List ℕ)). IsCompiled x h.text o c) (found_as before m book_file h.found told h.book) h.compiled)
+          subst (λ (s : List ℕ). IsCompiled (Found before) x s (get m book_file) c) (same_text h.text h.source)
+          (subst (λ (o : Option (List ℕ)). IsCompiled (Found before) x h.text o c) (found_as before m book_file h.found told h.book) h.compiled)
 
-      fault_here : (f : SourceFault) → HasFault x before f → HasDefinitionFault x text (get m book_file) f
+      fault_here : (f : SourceFault) → HasFault x before f → HasDefinitionFault (Found before) x text (get m book_file) f
       fault_here f h =
-          subst (λ (s : List ℕ). HasDefinitionFault x s (get m book_file) f) (same_text h.text h.source)
-          (subst (λ (o : Option (List ℕ)). HasDefinitionFault x h.text o f) (found_as before m book_file h.found told h.book) h.fault)
+          subst (λ (s : List ℕ). HasDefinitionFault (Found before) x s (get m book_file) f) (same_text h.text h.source)
+          (subst (λ (o : Option (List ℕ)). HasDefinitionFault (Found before) x h.text o f) (found_as before m book_file h.found told h.book) h.fault)
 
       is_there : get m (source_file x) ≡ None → ⊥
       is_there none = none_some m (get m (source_file x)) text none (sym (found_as before m (source_file x) (Some text) told there))

@@ -3,6 +3,7 @@ use Rattle.std.specs.Prelude.{◌≡◌, ◌⊎◌, ℕ, ◌≤◌, Bool, true, 
 use Rattle.std.specs.FinMap.{get}
 use Rattle.lil_base.specs.{Names.{book_file, file_of}, declared.{fault.{Key.Key, SourceFault.SourceFault}, name.FileKind.TheVariants.{Definition as DefinitionFile}}}
 use Rattle.lil_volume.specs.{Causes.Rose, Told.{Files, FileIs, with_writes}}
+use Rattle.lil_imports.specs.Ran.{Found}
 use Rattle.lil_compile.specs.{declared.stop.CompileStop.CompileStop, Compiled.{Compiled, IsCompiled, HasDefinitionFault}}
 use Rattle.lil_compile.specs.declared.stop.CompileStop.TheVariants as why
 
@@ -24,7 +25,7 @@ pub record IsMade (x : List ℕ) (files : Option Files) (c : Compiled) : Type 0 
   pub source : FileIs files (source_file x) (Some text)
   pub found : Option (List ℕ)
   pub book : FileIs files book_file found
-  pub compiled : IsCompiled x text found c
+  pub compiled : IsCompiled (Found files) x text found c
 
 -- the fault that it has
 pub record HasFault (x : List ℕ) (files : Option Files) (f : SourceFault) : Type 0 where
@@ -32,7 +33,7 @@ pub record HasFault (x : List ℕ) (files : Option Files) (f : SourceFault) : Ty
   pub source : FileIs files (source_file x) (Some text)
   pub found : Option (List ℕ)
   pub book : FileIs files book_file found
-  pub fault : HasDefinitionFault x text found f
+  pub fault : HasDefinitionFault (Found files) x text found f
 
 -- the files after the first n of the writes
 pub record IsWritten (x : List ℕ) (before after : Option Files) : Type 0 where

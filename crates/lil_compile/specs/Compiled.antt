@@ -1,15 +1,16 @@
 -- What a definition is compiled to, or which fault it has.
 use Rattle.std.specs.Prelude.{◌≡◌, ◌⊎◌, ℕ, ◌+◌, ◌<◌, ◌≤◌, List, [], ◌∷◌, length, codes, Option, Some, None}
-use Rattle.lil_base.specs.{Names.{book_file, file_of}, Faults.{fault, fault_about, fault_number}, declared.{name.FileKind.TheVariants.{Definition as DefinitionFile, Symbols as SymbolsFile}, fault.{FaultKind.TheVariants.{SymDamaged, BookFull}, SourceFault.SourceFault}}}
+use Rattle.lil_base.specs.{Names.{book_file, file_of}, Faults.{fault, fault_about, fault_number}, declared.{name.FileKind.TheVariants.{Symbols as SymbolsFile}, fault.{FaultKind.TheVariants.{SymDamaged, BookFull}, SourceFault.SourceFault}}}
 use Rattle.lil_language.specs.{Units.{Reads, HasReadFault}, declared.unit.Unit.Unit as Tree}
 use Rattle.lil_language.specs.declared.unit.UnitKind.TheVariants.{Definition}
 use Rattle.lil_report.specs.{declared.report.Fault.{Fault as Checked}, Told.tell}
-use Rattle.lil_interfaces.specs.Interfaces.{residents}
-use Rattle.lil_check_unit.specs.Units.{naming_rows, missing_rows, told}
+use Rattle.lil_interfaces.specs.declared.surface.Interface.{Interface}
+use Rattle.lil_check_unit.specs.Units.{naming_rows, told}
 use Rattle.lil_format.specs.Format.{IsFile, spelling}
 use Rattle.lil_symfile.specs.{declared.tree.SymbolFile.SymbolFile, Symbol.symbol_file}
 use Rattle.lil_book.specs.{declared.book.{Book.Book, Entry.Entry}, Book.{book, no_entries}, Laws.with_entry}
 use Rattle.lil_iface.specs.Iface.{HasInterfaceFault, IsInterface}
+use Rattle.lil_imports.specs.{declared.gathering.Gathered.Gathered, Gathering.{modules_of, nothing_gathered, Gathers, HasImportFault}}
 
 -- ---- the book of a volume by the bytes of its file: without entries where there is no file
 abbrev pub IsBook : Option (List ℕ) → Book → Type 0
@@ -23,12 +24,9 @@ IsDamaged found = (b : Book) → IsBook found b → ⊥
 abbrev pub next_key : Book → ℕ
 next_key b = length b.entries + 1
 
--- ---- the tests before the interface: of the unit's name and kind, and of its imports
+-- ---- the test before all others: of the unit's name and kind
 abbrev pub naming : List ℕ → Tree → Option Checked
 naming x u = tell None (naming_rows Definition x u)
-
-abbrev pub missing : Tree → Option Checked
-missing u = tell None (missing_rows residents u.head.imports)
 
 -- ---- faults, in the order in which they speak. `found` is what the volume's book holds, where it is there
 -- 78 SymDamaged, about LILITH, at the unit's name: the book isn't of its format
@@ -45,29 +43,32 @@ OfNaming x u f = (g : Checked) × (naming x u ≡ Some g) × (f ≡ told g)
 abbrev pub OfDamage : List ℕ → Tree → Option (List ℕ) → SourceFault → Type 0
 OfDamage x u found f = (naming x u ≡ None) × IsDamaged found × (f ≡ damaged u)
 
-abbrev pub OfImports : List ℕ → Tree → Book → SourceFault → Type 0
-OfImports x u b f = (naming x u ≡ None) × ((g : Checked) × (missing u ≡ Some g) × (f ≡ told g))
-
--- the unit's name and kind and its imports are right
-abbrev pub IsChecked : List ℕ → Tree → Type 0
-IsChecked x u = (naming x u ≡ None) × (missing u ≡ None)
-
-abbrev pub OfInterface : List ℕ → Tree → Book → SourceFault → Type 0
-OfInterface x u b f = IsChecked x u × HasInterfaceFault u residents (next_key b) f
-
 -- 65,535 entries are in the book
-abbrev pub OfRoom : List ℕ → Tree → Book → SourceFault → Type 0
-OfRoom x u b f = IsChecked x u × ((s : SymbolFile) × IsInterface u residents (next_key b) s × (65535 ≤ length b.entries) × (f ≡ full u))
+abbrev pub OfRoom : Tree → List Interface → Book → SourceFault → Type 0
+OfRoom u is b f = (s : SymbolFile) × IsInterface u is (next_key b) s × (65535 ≤ length b.entries) × (f ≡ full u)
 
-abbrev pub OfBook : List ℕ → Tree → Book → SourceFault → Type 0
-OfBook x u b f = OfImports x u b f ⊎ (OfInterface x u b f ⊎ OfRoom x u b f)
+-- its interface has a fault, or there is no room for it, where these are the interfaces of what it imports
+abbrev pub IsWrong : Tree → List Interface → Book → SourceFault → Type 0
+IsWrong u is b f = HasInterfaceFault u is (next_key b) f ⊎ OfRoom u is b f
 
-abbrev pub HasUnitFault : List ℕ → Tree → Option (List ℕ) → SourceFault → Type 0
-HasUnitFault x u found f = OfNaming x u f ⊎ (OfDamage x u found f ⊎ ((b : Book) × IsBook found b × OfBook x u b f))
+-- ---- P says what is found as a module's symbol file
+module _ (P : List ℕ → Option (List ℕ) → Type 0) where
+  -- no import has a fault, and this is gathered
+  abbrev pub IsImported : Tree → Gathered → Type 0
+  IsImported u g = Gathers u P nothing_gathered (modules_of u.head.imports) g
 
--- the fault of a text, as the definition of the module x
-abbrev pub HasDefinitionFault : (x text : List ℕ) → Option (List ℕ) → SourceFault → Type 0
-HasDefinitionFault x text found f = HasReadFault text f ⊎ ((u : Tree) × Reads text u × HasUnitFault x u found f)
+  -- over a book
+  abbrev pub OfBook : List ℕ → Tree → Book → SourceFault → Type 0
+  OfBook x u b f =
+      (naming x u ≡ None)
+      × (HasImportFault u P nothing_gathered (modules_of u.head.imports) f ⊎ ((g : Gathered) × IsImported u g × IsWrong u g.interfaces b f))
+
+  abbrev pub HasUnitFault : List ℕ → Tree → Option (List ℕ) → SourceFault → Type 0
+  HasUnitFault x u found f = OfNaming x u f ⊎ (OfDamage x u found f ⊎ ((b : Book) × IsBook found b × OfBook x u b f))
+
+  -- the fault of a text, as the definition of the module x
+  abbrev pub HasDefinitionFault : (x text : List ℕ) → Option (List ℕ) → SourceFault → Type 0
+  HasDefinitionFault x text found f = HasReadFault text f ⊎ ((u : Tree) × Reads text u × HasUnitFault x u found f)
 
 -- ---- what is written: the book with the entry, and then the symbol file
 abbrev pub entry_of : (x text : List ℕ) → SymbolFile → Entry
@@ -83,14 +84,16 @@ compiled x text b s = record {
   writes = (book_file, spelling book (with_entry b (entry_of x text s))) ∷ (file_of x SymbolsFile, spelling symbol_file s) ∷ [];
 }
 
--- a text without a fault, as the definition of the module x
-pub record IsCompiled (x text : List ℕ) (found : Option (List ℕ)) (c : Compiled) : Type 0 where
+-- a text without a fault, as the definition of the module x, where P says what is found as a module's symbol file
+pub record IsCompiled (P : List ℕ → Option (List ℕ) → Type 0) (x text : List ℕ) (found : Option (List ℕ)) (c : Compiled) : Type 0 where
   pub unit : Tree
   pub read : Reads text unit
-  pub checked : IsChecked x unit
+  pub named : naming x unit ≡ None
   pub entries : Book
   pub there : IsBook found entries
+  pub gathered : Gathered
+  pub imported : IsImported P unit gathered
   pub symbols : SymbolFile
-  pub interface : IsInterface unit residents (next_key entries) symbols
+  pub interface : IsInterface unit gathered.interfaces (next_key entries) symbols
   pub room : length entries.entries < 65535
   pub is : c ≡ compiled x text entries symbols

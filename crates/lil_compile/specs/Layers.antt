@@ -9,9 +9,11 @@ use Rattle.lil_volume.specs.{declared.outside.VolumeError.VolumeError, Causes.Ro
 use Rattle.lil_volume.specs.declared.outside.VolumeError.TheVariants as volume
 use Rattle.lil_symfile.specs.declared.tree.SymbolFile.{SymbolFile}
 use Rattle.lil_book.specs.declared.book.Book.{Book}
-use Rattle.lil_interfaces.specs.Interfaces.{residents}
+use Rattle.lil_interfaces.specs.declared.surface.Interface.{Interface}
 use Rattle.lil_iface.specs.Iface.{IsInterface}
-use Rattle.lil_compile.specs.{declared.{prepare.Prepared.Prepared, stop.CompileStop.CompileStop}, Compiled.{Compiled, compiled, next_key, IsBook, IsChecked, IsCompiled, HasUnitFault, HasDefinitionFault}, Command.gives_way}
+use Rattle.lil_imports.specs.{declared.{gathering.Gathered.Gathered, stop.ImportStop.ImportStop}, Ran.Found}
+use Rattle.lil_imports.specs.declared.stop.ImportStop.TheVariants as import
+use Rattle.lil_compile.specs.{declared.{prepare.Prepared.Prepared, stop.CompileStop.CompileStop}, Compiled.{Compiled, compiled, naming, next_key, IsBook, IsImported, IsCompiled, HasUnitFault, HasDefinitionFault}, Command.gives_way}
 use Rattle.lil_compile.specs.declared.stop.CompileStop.TheVariants as why
 
 -- ---- answers of other calls, as they are told here
@@ -23,35 +25,45 @@ abbrev pub failed_by : VolumeError → CompileStop
 failed_by volume.Failed = why.Volume
 failed_by volume.Memory = why.Memory
 
+abbrev pub imported_by : ImportStop → CompileStop
+imported_by (import.Source f) = why.Source f
+imported_by import.Volume = why.Volume
+imported_by import.Memory = why.Memory
+
 -- ---- what a unit is compiled to
 -- the bytes that were made, with the files that they are written to
 abbrev pub compiled_as : List ℕ → Prepared → Compiled
 compiled_as x p = record { key = p.key.0; writes = (book_file, p.book) ∷ (file_of x SymbolsFile, p.symbols) ∷ [] }
 
--- over a book, under its next key
-pub record IsOver (x text : List ℕ) (u : Tree) (b : Book) (c : Compiled) : Type 0 where
-  pub checked : IsChecked x u
+-- over a book, under its next key, where these are the interfaces of what it imports
+pub record IsOver (x text : List ℕ) (u : Tree) (interfaces : List Interface) (b : Book) (c : Compiled) : Type 0 where
+  pub named : naming x u ≡ None
   pub symbols : SymbolFile
-  pub interface : IsInterface u residents (next_key b) symbols
+  pub interface : IsInterface u interfaces (next_key b) symbols
   pub room : length b.entries < 65535
   pub is : c ≡ compiled x text b symbols
 
--- over the book that the volume holds
-abbrev pub IsOverFound : (x text : List ℕ) → Tree → Option (List ℕ) → Compiled → Type 0
-IsOverFound x text u found c = (b : Book) × IsBook found b × IsOver x text u b c
+-- P says what is found as a module's symbol file
+module _ (P : List ℕ → Option (List ℕ) → Type 0) where
+  abbrev pub IsOverImports : (x text : List ℕ) → Tree → Book → Compiled → Type 0
+  IsOverImports x text u b c = (g : Gathered) × IsImported P u g × IsOver x text u g.interfaces b c
+
+  -- over the book that the volume holds
+  abbrev pub IsOverFound : (x text : List ℕ) → Tree → Option (List ℕ) → Compiled → Type 0
+  IsOverFound x text u found c = (b : Book) × IsBook found b × IsOverImports x text u b c
 
 -- ---- the same in files, as far as they are told
 abbrev pub IsUnitMade : (x text : List ℕ) → Tree → Option Files → Compiled → Type 0
-IsUnitMade x text u files c = (found : Option (List ℕ)) × FileIs files book_file found × IsOverFound x text u found c
+IsUnitMade x text u files c = (found : Option (List ℕ)) × FileIs files book_file found × IsOverFound (Found files) x text u found c
 
 abbrev pub IsUnitWrong : List ℕ → Tree → Option Files → SourceFault → Type 0
-IsUnitWrong x u files f = (found : Option (List ℕ)) × FileIs files book_file found × HasUnitFault x u found f
+IsUnitWrong x u files f = (found : Option (List ℕ)) × FileIs files book_file found × HasUnitFault (Found files) x u found f
 
 abbrev pub IsTextMade : (x text : List ℕ) → Option Files → Compiled → Type 0
-IsTextMade x text files c = (found : Option (List ℕ)) × FileIs files book_file found × IsCompiled x text found c
+IsTextMade x text files c = (found : Option (List ℕ)) × FileIs files book_file found × IsCompiled (Found files) x text found c
 
 abbrev pub IsTextWrong : (x text : List ℕ) → Option Files → SourceFault → Type 0
-IsTextWrong x text files f = (found : Option (List ℕ)) × FileIs files book_file found × HasDefinitionFault x text found f
+IsTextWrong x text files f = (found : Option (List ℕ)) × FileIs files book_file found × HasDefinitionFault (Found files) x text found f
 
 -- ---- the answer of a part, where the source is there: what is right was written in its order, and what is wrong is told
 pub record Ran (Right : Compiled → Type 0) (Wrong : SourceFault → Type 0) (before : Option Files) (before_faults : ℕ) (after : Option Files) (after_faults : ℕ) (result : Result Key CompileStop) : Type 0 where
@@ -66,5 +78,5 @@ pub record Ran (Right : Compiled → Type 0) (Wrong : SourceFault → Type 0) (b
 -- the same of a text, of which no more than one answer is right where the files are told
 pub record TextRan (x text : List ℕ) (before : Option Files) (before_faults : ℕ) (after : Option Files) (after_faults : ℕ) (result : Result Key CompileStop) : Type 0 where
   pub ran : Ran (IsTextMade x text before) (IsTextWrong x text before) before before_faults after after_faults result
-  pub done_where : (m : Files) (c : Compiled) → before ≡ Some m → IsCompiled x text (get m book_file) c → gives_way result ≡ false → result ≡ Ok (record { 0 = c.key })
-  pub fault_where : (m : Files) (f : SourceFault) → before ≡ Some m → HasDefinitionFault x text (get m book_file) f → gives_way result ≡ false → result ≡ Err (why.Source f)
+  pub done_where : (m : Files) (c : Compiled) → before ≡ Some m → IsCompiled (Found before) x text (get m book_file) c → gives_way result ≡ false → result ≡ Ok (record { 0 = c.key })
+  pub fault_where : (m : Files) (f : SourceFault) → before ≡ Some m → HasDefinitionFault (Found before) x text (get m book_file) f → gives_way result ≡ false → result ≡ Err (why.Source f)

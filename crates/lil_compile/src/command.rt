@@ -1,13 +1,18 @@
 ghost use Rattle.std.specs.Prelude.{◌≡◌, ◌<◌, length, None, Some};
 ghost use Rattle.lil_language.specs.Units.{Reads};
-ghost use Rattle.lil_compile.specs.Compiled.{naming};
+ghost use Rattle.lil_format.specs.Format.{Fits};
+ghost use Rattle.lil_book.specs.Book.{book};
+ghost use Rattle.lil_imports.specs.Ran.{Found};
+ghost use Rattle.lil_compile.specs.Compiled.{naming, OfBook};
 ghost use Rattle.lil_compile.specs.Command.{DefinitionCompiled};
-ghost use Rattle.lil_compile.specs.Layers.{compiled_as, IsUnitMade, IsUnitWrong, Ran, TextRan};
+ghost use Rattle.lil_compile.specs.Layers.{compiled_as, IsOverImports, IsUnitMade, IsUnitWrong, Ran, TextRan};
 
 use crate::CompileStop;
-use crate::prepare::{Prepared, prepare};
+use crate::prepare::{Prepared, book_of, damaged, prepare};
 use lil_base::{FileKind, FileName, Key, Name, Text};
+use lil_book::Book;
 use lil_check_unit::{naming_fault, told};
+use lil_imports::gather;
 use lil_language::{Unit, UnitKind};
 use lil_read_unit::read;
 use lil_volume::Volume;
@@ -29,6 +34,25 @@ fn store<V: Volume>(
     Ok(made.key)
 }
 
+/// Compiles a unit whose name and kind are right, over a book.
+fn compile_over<V: Volume>(
+    alloc: Global,
+    volume: &mut V,
+    x: &Name,
+    text: Text,
+    u: &Unit,
+    of: Book,
+) -> Result<Key, CompileStop>
+    requires named { naming x.now u.now ≡ None }
+    requires short { length text < 4294967296 }
+    requires fits { Fits book of }
+    ensures { Ran (IsOverImports (Found (V.files volume.old)) x.now text u.now of) (OfBook (Found (V.files volume.old)) x.now u.now of) (V.files volume.old) (V.faults volume.old) (V.files volume.new) (V.faults volume.new) result }
+{
+    let gathered = gather(alloc, volume, u)?;
+    let made = prepare(alloc, x, text, u, &gathered.interfaces, of)?;
+    store(alloc, volume, x, &made)
+}
+
 /// Compiles a unit whose name and kind are right.
 fn compile_named<V: Volume>(
     alloc: Global,
@@ -43,8 +67,10 @@ fn compile_named<V: Volume>(
 {
     let book = FileName::book(alloc)?;
     let found = volume.read(alloc, &book)?;
-    let made = prepare(alloc, x, text, u, &found)?;
-    store(alloc, volume, x, &made)
+    match book_of(alloc, &found)? {
+        None => Err(CompileStop::Source(damaged(alloc, u)?)),
+        Some(of) => compile_over(alloc, volume, x, text, u, of),
+    }
 }
 
 /// Compiles a unit as the definition of the module x.
@@ -78,12 +104,13 @@ fn compile_text<V: Volume>(
 }
 
 /// Compiles the definition of the module x in a volume (Programming in Modula-2, Definition and implementation parts; ETH report
-/// 40). It reads `x.DEF`, and then, where that is a definition of this name, the book `LILITH.BOK`. It writes the book with one
+/// 40). It reads `x.DEF`, and then, where that is a definition of this name, the book `LILITH.BOK` and the symbol file of each module
+/// that it imports and that isn't resident, in their order, up to the first import that has a fault. It writes the book with one
 /// entry more, the name, the source's text and the modules on which it rests, and then `x.SYM`. The answer is the entry's key: its
 /// number in the book, from 1. A volume without the file of a book has a book without entries.
 ///
 /// The first of these faults speaks: that of the text (65, 1 to 6, 10, 12, 11), of the unit's kind or name (80, 76, 77), a book
-/// that isn't of its format (78), a module that is imported and isn't built (90), names and declarations, a symbol file or
+/// that isn't of its format (78), imports (63, 70, 71, 72, 78, the first import that has one), names and declarations, a symbol file or
 /// variables that are too long (61), and a book that is full (79).
 ///
 /// All bytes are made before the first write. After a fault of the volume, or where it wants memory, the book may be written

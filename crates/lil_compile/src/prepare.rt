@@ -3,16 +3,15 @@ ghost use Rattle.lil_base.specs.declared.fault.SourceFault.{SourceFault as Told}
 ghost use Rattle.lil_text.specs.declared.stop.ReadStop.TheVariants as stop;
 ghost use Rattle.lil_format.specs.Format.{Fits};
 ghost use Rattle.lil_book.specs.Book.{book};
-ghost use Rattle.lil_interfaces.specs.Interfaces.{residents};
+ghost use Rattle.lil_check_unit.specs.Units.{HasInterfaces};
 ghost use Rattle.lil_iface.specs.Iface.{IsInterface};
 ghost use Rattle.lil_compile.specs.Compiled as spec;
-ghost use Rattle.lil_compile.specs.Layers.{compiled_as, IsOver, IsOverFound};
+ghost use Rattle.lil_compile.specs.Layers.{compiled_as, IsOver};
 
 use lil_base::{Bytes, FaultKind, FormatStop, Key, Memory, Name, SourceFault, Text};
 use lil_book::{Book, BookStop, Entry, read_book, write_book};
-use lil_check_unit::{missing_fault, told};
 use lil_iface::interface_of;
-use lil_interfaces::all_resident;
+use lil_interfaces::Interfaces;
 use lil_language::Unit;
 use lil_symfile::{SymbolFile, write_sym};
 use lil_text::ReadStop;
@@ -27,7 +26,7 @@ pub(crate) struct Prepared {
 }
 
 /// The book whose file was found, without entries where there is no file; none where the file isn't of its format.
-fn book_of(alloc: Global, found: &Option<Bytes>) -> Result<Option<Book>, Memory>
+pub(crate) fn book_of(alloc: Global, found: &Option<Bytes>) -> Result<Option<Book>, Memory>
     ensures { IfOk result (λ o. MatchOption o (spec.IsDamaged found.now) (λ b. spec.IsBook found.now b)) }
 {
     let Some(bytes) = found else {
@@ -41,7 +40,7 @@ fn book_of(alloc: Global, found: &Option<Bytes>) -> Result<Option<Book>, Memory>
 }
 
 /// Fault 78, about the book, at the unit's name.
-fn damaged(alloc: Global, u: &Unit) -> Result<SourceFault, Memory>
+pub(crate) fn damaged(alloc: Global, u: &Unit) -> Result<SourceFault, Memory>
     ensures { IfOk result (λ f. f ≡ spec.damaged u.now) }
 {
     let Some(name) = Name::of_slice(alloc, b"LILITH")? else {
@@ -72,15 +71,16 @@ fn with_symbols(
     x: &Name,
     text: Text,
     u: &Unit,
+    interfaces: &Interfaces,
     of: Book,
     symbols: SymbolFile,
 ) -> Result<Prepared, ReadStop>
-    requires checked { spec.IsChecked x.now u.now }
+    requires named { spec.naming x.now u.now ≡ None }
     requires short { length text < 4294967296 }
     requires fits { Fits book of }
-    requires interface { IsInterface u.now residents (spec.next_key of) symbols }
-    ensures right { IfOk result (λ p. IsOver x.now text u.now of (compiled_as x.now p)) }
-    ensures wrong { (f : Told) → result ≡ Err (stop.Fault f) → spec.OfRoom x.now u.now of f }
+    requires interface { IsInterface u.now interfaces.now (spec.next_key of) symbols }
+    ensures right { IfOk result (λ p. IsOver x.now text u.now interfaces.now of (compiled_as x.now p)) }
+    ensures wrong { (f : Told) → result ≡ Err (stop.Fault f) → spec.OfRoom u.now interfaces.now of f }
 {
     // its bytes have the form of names
     let _ = x.as_slice();
@@ -102,38 +102,23 @@ fn with_symbols(
     }
 }
 
-/// The same from the unit's imports on.
-fn with_book(alloc: Global, x: &Name, text: Text, u: &Unit, of: Book) -> Result<Prepared, ReadStop>
-    requires named { spec.naming x.now u.now ≡ None }
-    requires short { length text < 4294967296 }
-    requires fits { Fits book of }
-    ensures right { IfOk result (λ p. IsOver x.now text u.now of (compiled_as x.now p)) }
-    ensures wrong { (f : Told) → result ≡ Err (stop.Fault f) → spec.OfBook x.now u.now of f }
-{
-    let interfaces = all_resident(alloc)?;
-    if let Some(fault) = missing_fault(&interfaces, u) {
-        return Err(ReadStop::Fault(told(fault)));
-    }
-    let symbols = interface_of(alloc, u, &interfaces, next_key(&of))?;
-    with_symbols(alloc, x, text, u, of, symbols)
-}
-
-/// What is written of a unit whose name and kind are right, where the volume's book was found so, or its fault: the book isn't of
-/// its format (78), else an import (90), else its interface, else the book is full (79).
+/// What is written of a unit whose name and kind are right, over a book, or its fault: that of its interface, else the book is full
+/// (79). Each module that it imports has an interface.
 pub(crate) fn prepare(
     alloc: Global,
     x: &Name,
     text: Text,
     u: &Unit,
-    found: &Option<Bytes>,
+    interfaces: &Interfaces,
+    of: Book,
 ) -> Result<Prepared, ReadStop>
     requires named { spec.naming x.now u.now ≡ None }
     requires short { length text < 4294967296 }
-    ensures right { IfOk result (λ p. IsOverFound x.now text u.now found.now (compiled_as x.now p)) }
-    ensures wrong { (f : Told) → result ≡ Err (stop.Fault f) → spec.HasUnitFault x.now u.now found.now f }
+    requires fits { Fits book of }
+    requires imported { HasInterfaces interfaces.now u.now }
+    ensures right { IfOk result (λ p. IsOver x.now text u.now interfaces.now of (compiled_as x.now p)) }
+    ensures wrong { (f : Told) → result ≡ Err (stop.Fault f) → spec.IsWrong u.now interfaces.now of f }
 {
-    match book_of(alloc, found)? {
-        None => Err(ReadStop::Fault(damaged(alloc, u)?)),
-        Some(of) => with_book(alloc, x, text, u, of),
-    }
+    let symbols = interface_of(alloc, u, interfaces, next_key(&of))?;
+    with_symbols(alloc, x, text, u, interfaces, of, symbols)
 }

@@ -1,8 +1,9 @@
 ghost use Rattle.std.specs.Prelude.{◌≡◌};
 ghost use Rattle.lil_compile.specs.declared.stop.CompileStop.TheVariants as why;
-ghost use Rattle.lil_compile.specs.Layers.{stopped_by, failed_by};
+ghost use Rattle.lil_compile.specs.Layers.{stopped_by, failed_by, imported_by};
 
 use lil_base::{Memory, SourceFault};
+use lil_imports::ImportStop;
 use lil_text::ReadStop;
 use lil_volume::VolumeError;
 
@@ -45,6 +46,18 @@ impl From<VolumeError> for CompileStop {
         match error {
             VolumeError::Failed => CompileStop::Volume,
             VolumeError::Memory => CompileStop::Memory,
+        }
+    }
+}
+
+impl From<ImportStop> for CompileStop {
+    ghost from_gives = { λ stop e. e ≡ imported_by stop };
+
+    fn from(stop: ImportStop) -> CompileStop {
+        match stop {
+            ImportStop::Source(fault) => CompileStop::Source(fault),
+            ImportStop::Volume => CompileStop::Volume,
+            ImportStop::Memory => CompileStop::Memory,
         }
     }
 }

@@ -39,8 +39,12 @@ static FAULTS: &str = "\
 60 Too much lies in one another here. Give a part of it to a variable first.
 61 This takes more than 32000 words, which is all that the variables, or one type, may have.
 62 A module has at most 250 procedures.
+63 A module imports at most 60 modules beside those of the system.
 64 The program is too long: its code has more than 32767 bytes.
 65 A text has at most 262144 bytes.
+70 The module that is imported has no symbol file in this folder. Compile its definition first, with lilith compile and the name of its .DEF file.
+71 This import was compiled with another version of the module that is named: the two numbers are the keys of the versions. Compile the definitions that rest on it again, each behind those that it imports.
+72 A module can't import itself, and no module that rests on it.
 76 A module of the system has this name. Choose another one, for the file too.
 77 The module and the file must have the same name: MODULE Hello stands in Hello.MOD.
 78 The file LILITH.BOK of this folder, or a symbol file, isn't as lilith has written it. Take back a copy of it.

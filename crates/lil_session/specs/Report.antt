@@ -40,12 +40,15 @@ procedure_text (Some name) = codes "." ++ name
 abbrev pub place_text : List ℕ → SourceFault → List ℕ
 place_text file s = file ++ codes ":" ++ decimal s.place.line ++ codes ":" ++ decimal s.place.column ++ codes ": "
 
--- a blank and the number of bytes, for 64 alone
-abbrev pub value_text : ℕ → ℕ → List ℕ
-value_text number value = if number == 64 then codes " " ++ decimal value else []
+-- the values of a fault, each behind a blank: of 64 the number of bytes, of 71 both keys
+abbrev pub value_text : ℕ → List ℕ
+value_text value = codes " " ++ decimal value
+
+abbrev pub values_text : ℕ → ℕ → ℕ → List ℕ
+values_text number first second = if number == 64 then value_text first else (if number == 71 then value_text first ++ value_text second else [])
 
 abbrev pub fault_text : SourceFault → List ℕ
-fault_text s = decimal s.number ++ codes " " ++ fault_name s.number ++ about_text s.about ++ value_text s.number s.first
+fault_text s = decimal s.number ++ codes " " ++ fault_name s.number ++ about_text s.about ++ values_text s.number s.first s.second
 
 abbrev pub trap_text : TrapAt → List ℕ
 trap_text t = codes "trap " ++ trap_name t.kind ++ codes " in " ++ t.module ++ procedure_text t.procedure

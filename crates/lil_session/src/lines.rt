@@ -1,5 +1,5 @@
 ghost use Rattle.std.specs.Prelude.{◌≡◌, ◌++◌, ◌∷◌, [], false, OnOk, IfOk, decimal, codes};
-ghost use Rattle.lil_session.specs.Report.{trap_name, limit_name, about_text, value_text, procedure_text, place_text, fault_text, trap_text, code_text, refusal_text, is_fixed, status_lines};
+ghost use Rattle.lil_session.specs.Report.{trap_name, limit_name, about_text, value_text, values_text, procedure_text, place_text, fault_text, trap_text, code_text, refusal_text, is_fixed, status_lines};
 
 use crate::Status;
 use lil_base::{
@@ -68,15 +68,25 @@ fn put_about(line: &mut Bytes, about: &Option<Name>) -> Result<(), Memory>
     }
 }
 
-/// The value of a fault of this number, where it has one.
-fn put_value(alloc: Global, line: &mut Bytes, number: u8, value: u32) -> Result<(), Memory>
-    ensures { OnOk result (line.new ≡ line.old ++ value_text number value) }
+fn put_value(alloc: Global, line: &mut Bytes, value: u32) -> Result<(), Memory>
+    ensures { OnOk result (line.new ≡ line.old ++ value_text value) }
 {
-    if number != 64 {
-        return Ok(());
-    }
     line.extend(b" ")?;
     put_number(alloc, line, value)
+}
+
+/// The values of a fault: of 64 the number of bytes, of 71 both keys.
+fn put_values(alloc: Global, line: &mut Bytes, s: &SourceFault) -> Result<(), Memory>
+    ensures { OnOk result (line.new ≡ line.old ++ values_text s.now.number s.now.first s.now.second) }
+{
+    if s.number == 64 {
+        return put_value(alloc, line, s.first);
+    }
+    if s.number != 71 {
+        return Ok(());
+    }
+    put_value(alloc, line, s.first)?;
+    put_value(alloc, line, s.second)
 }
 
 fn put_procedure(line: &mut Bytes, procedure: &Option<Name>) -> Result<(), Memory>
@@ -109,7 +119,7 @@ fn put_fault(alloc: Global, line: &mut Bytes, s: &SourceFault) -> Result<(), Mem
     line.extend(b" ")?;
     line.extend(s.name())?;
     put_about(line, &s.about)?;
-    put_value(alloc, line, s.number, s.first)
+    put_values(alloc, line, s)
 }
 
 fn put_trap(line: &mut Bytes, t: &TrapAt) -> Result<(), Memory>

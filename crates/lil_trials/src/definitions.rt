@@ -42,17 +42,18 @@ fn volume_of(alloc: Global, book: Option<Bytes>, fails: u64) -> Result<RamVolume
     Ok(RamVolume::new(alloc, files, numbers(alloc, fails)?)?)
 }
 
-/// Compiles the definition, with a report that fails at a call, or at none for 0.
-fn compile(
+/// Does what these words ask for, with a report that fails at a call, or at none for 0.
+fn asked(
     rt: &impl Abort,
     alloc: Global,
+    asked_for: &[&[u8]],
     volume: &mut RamVolume,
     report_fails: u64,
     code: u8,
     line: &[u8],
 ) -> Result<(), Fail> {
     let mut words = Vec::new(alloc);
-    for word in WORDS {
+    for word in asked_for {
         words.push(Text::from_slice(alloc, word)?)?;
     }
     let mut keys = RamKeys::new(alloc, Bytes::new(alloc), Vec::new(alloc))?;
@@ -71,6 +72,18 @@ fn compile(
     assert_eq!(rt; status.code(), code);
     assert_eq!(rt; report.written().as_slice(), line);
     Ok(())
+}
+
+/// Compiles the definition.
+fn compile(
+    rt: &impl Abort,
+    alloc: Global,
+    volume: &mut RamVolume,
+    report_fails: u64,
+    code: u8,
+    line: &[u8],
+) -> Result<(), Fail> {
+    asked(rt, alloc, WORDS, volume, report_fails, code, line)
 }
 
 /// A book of so many entries of the module D, each with this text of so many bytes.
@@ -192,4 +205,42 @@ fn books_that_refuse(rt: HostRuntime) -> Result<(), Fail> {
     refused(&rt, alloc, longer, line)?;
     let full = book_of(alloc, 65_535, b"", 0)?;
     refused(&rt, alloc, full, b"D.DEF:1:19: 79 BookFull\n")
+}
+
+/// A volume with two definitions, of which the second imports the first, that fails at a call, or at none for 0.
+fn two_definitions(alloc: Global, fails: u64) -> Result<RamVolume, Fail> {
+    let mut files = Vec::new(alloc);
+    files.push((
+        file_name(alloc, b"A.DEF")?,
+        Bytes::from_slice(alloc, b"DEFINITION MODULE A; END A.")?,
+    ))?;
+    files.push((
+        file_name(alloc, b"B.DEF")?,
+        Bytes::from_slice(alloc, b"DEFINITION MODULE B; IMPORT A; END B.")?,
+    ))?;
+    Ok(RamVolume::new(alloc, files, numbers(alloc, fails)?)?)
+}
+
+/// The symbol file of an import can't be read: nothing is written, and the next compilation finds all as it was. The volume is
+/// called four times for the first definition, and then for the source, the book, and the symbol file of the import.
+#[test]
+fn failing_import(rt: HostRuntime) -> Result<(), Fail> {
+    let alloc = rt.alloc();
+    let first: &[&[u8]] = &[b"compile", b"A.DEF"];
+    let second: &[&[u8]] = &[b"compile", b"B.DEF"];
+    let mut volume = two_definitions(alloc, 7)?;
+    asked(
+        &rt,
+        alloc,
+        second,
+        &mut volume,
+        0,
+        3,
+        b"B.DEF:1:29: 70 NoSymbol\n",
+    )?;
+    let mut volume = two_definitions(alloc, 7)?;
+    asked(&rt, alloc, first, &mut volume, 0, 0, b"A key 1\n")?;
+    asked(&rt, alloc, second, &mut volume, 0, 8, NO_VOLUME)?;
+    holds(&rt, alloc, &mut volume, b"B.SYM", None)?;
+    asked(&rt, alloc, second, &mut volume, 0, 0, b"B key 2\n")
 }

@@ -1,4 +1,4 @@
-use Rattle.std.proofs.Common.{Err, refl, sym, ◌∙◌, ap, subst}
+use Rattle.std.proofs.Common.{Err, subst}
 use Rattle.lil_volume.specs.Causes.{VolumeCause}
 use Rattle.lil_compile.proofs.Parts.{part_failed, first_cut, second_cut}
 use Rattle.lil_compile.proofs.command.store.Goals as goal

@@ -1,4 +1,4 @@
-use Rattle.std.proofs.Common.{◌≡◌, sym, ◌∙◌, ap, subst, List, ℕ, ◌++◌, ◌∷◌, []}
+use Rattle.std.proofs.Common.{sym, ◌∙◌, ap, subst, List, ℕ, ◌++◌, ◌∷◌, []}
 use Rattle.std.proofs.Math.Nat.{lt_of_not-le}
 use Rattle.lil_format.specs.Format.{Fits}
 use Rattle.lil_book.specs.{declared.book.Entry.Entry, Book.book}

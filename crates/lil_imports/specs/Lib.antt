@@ -1,0 +1,5 @@
+pub mod Gathering
+pub mod Laws
+pub mod Meeting
+pub mod Ran
+pub mod Stored
