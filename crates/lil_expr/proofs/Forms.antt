@@ -1,10 +1,10 @@
 -- The code of expressions, form by form.
-use Rattle.std.proofs.Common.{◌≡◌, ℕ, ◌<◌, Bool, true, false, not, ◌&&◌, length, List, refl, sym, ap, ◌∙◌, subst}
+use Rattle.std.proofs.Common.{◌≡◌, ℕ, ◌<◌, Bool, true, false, not, ◌&&◌, length, List, refl, subst}
 use Rattle.lil_base.specs.declared.operator.OneOp.{OneOp}
-use Rattle.lil_resolved.specs.{Kinds.{Kind, Scalar, scalar_word, procedure_word, within, is_literal, is_reference}, Resolved.{Function, Expression, Constant, One, Apply, Routine, kind_of}}
+use Rattle.lil_resolved.specs.{Kinds.{Kind, Scalar, scalar_word, within, is_literal, is_reference}, Resolved.{Function, Expression, Constant, One, Apply, Routine, kind_of}}
 use Rattle.lil_asm.specs.declared.instr.Instr.TheVariants.{Liw}
-use Rattle.lil_table.specs.Rows.{IsAt, one_code, function_code, lone_number}
-use Rattle.lil_labels.specs.{Drafts.{Draft, Adds, Emits, Doing, DoingAll}, Emitting.{emits_as}}
+use Rattle.lil_table.specs.Rows.{IsAt, one_code, function_code}
+use Rattle.lil_labels.specs.{Drafts.{Draft, Adds, Emits, Doing, Naming, DoingAll}, Emitting.{emits_as}}
 use Rattle.lil_expr.specs.{Strings.emits_end, Generating.{Value}}
 use Rattle.lil_expr.proofs.Operators.{one_same}
 
@@ -30,10 +30,5 @@ pub apply_emitted : {us : List ℕ} (f : Function) (e : Expression) (a b c : Dra
 apply_emitted f e a b c value by =
     emits_as a c _ (Value (Apply f e)) (λ x t sound. record { middle = length b.bytes; takes = sound.0; first = t.0 sound.1; by = t.1 }) (emits_end a b c _ _ value by)
 
-pub routine_emitted : (p n w : ℕ) (a b : Draft) → p < 256 → w ≡ procedure_word lone_number p
-    → Emits a b (Doing (λ word. Liw w)) → Emits a b (Value (Routine p n))
-routine_emitted p n w a b small is =
-    emits_as a b _ (Value (Routine p n))
-    (λ x load sound.
-    let whole : w ≡ procedure_word x.layout.number p = is ∙ ap (λ (m : ℕ). procedure_word m p) (sym x.described.number) in
-    record { may = sound; low = small; load = subst (λ (w : ℕ). IsAt x.code (length a.bytes) (Liw w) (length b.bytes)) whole load })
+pub routine_emitted : (p n : ℕ) (a b : Draft) → p < 256 → Emits a b (Naming p) → Emits a b (Value (Routine p n))
+routine_emitted p n a b small = emits_as a b _ (Value (Routine p n)) (λ x load sound. record { may = sound; low = small; load = load })

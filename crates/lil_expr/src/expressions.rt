@@ -9,7 +9,7 @@ ghost use Rattle.lil_expr.specs.{Accesses.access_view, Generating.{Addressed, Fo
 
 use crate::calls::emit_invoked;
 use crate::functions::emit_function;
-use crate::numbers::{constant_word, routine_word};
+use crate::numbers::constant_word;
 use crate::opened::frame_load;
 use crate::places::{Access, Reached, emit_address, emit_load, further};
 use crate::ranges::{emit_test, least_word};
@@ -58,7 +58,7 @@ pub fn emit_expression(code: &mut CodeBuffer<'_>, e: &RExpr) -> Result<(), Memor
             let opened = code.variable(RNamed::Level(*levels, *number));
             code.put(frame_load(*levels, opened.offset.saturating_add(1)))
         }
-        RExpr::Routine(procedure, _) => code.put(Instr::Liw(routine_word(*procedure))),
+        RExpr::Routine(procedure, _) => code.routine(*procedure),
     }
 }
 

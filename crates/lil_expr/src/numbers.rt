@@ -2,8 +2,7 @@
 
 ghost use Rattle.std.specs.Prelude.{◌≡◌, ◌%◌, pos, ◌≤ℤ◌, true};
 ghost use Rattle.lil_base.specs.Words.{word_of};
-ghost use Rattle.lil_resolved.specs.{Kinds.{procedure_word, scalar_of, scalar_word, within}, Views.base_view};
-ghost use Rattle.lil_table.specs.Rows.{lone_number};
+ghost use Rattle.lil_resolved.specs.{Kinds.{scalar_of, scalar_word, within}, Views.base_view};
 
 use lil_resolved::RBase;
 
@@ -17,16 +16,6 @@ pub fn word_of_number(number: i32) -> u16
         return 0;
     }
     number.rem_euclid(65536) as u16
-}
-
-/// The number of a program module, which is loaded alone.
-const LONE_NUMBER: u16 = 1;
-
-/// The word of a procedure of a program module as a value, by its number.
-pub(crate) fn routine_word(procedure: u8) -> u16
-    ensures { result ≡ procedure_word lone_number procedure }
-{
-    256 * LONE_NUMBER + u16::from(procedure)
 }
 
 /// The word of a constant of a base, by its number. That of a set has the numbers below 16 that are in the set, and that of

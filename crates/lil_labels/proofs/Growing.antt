@@ -4,12 +4,12 @@ use Rattle.std.specs.Prelude.{slice_get}
 use Rattle.std.proofs.lemmas.{Option.slice_get_within, List.{get_or_append_left, get_or-append-add}}
 use Rattle.lil_resolved.specs.{Sound.is_text, Sizes.words_of}
 use Rattle.lil_table.specs.Rows.{Layout, HasText, text_words}
-use Rattle.lil_labels.specs.{declared.buffer.Jump.Jump, Entries.{get_front, get_last}, Tables.Tables, Drafts.{Draft, Adds, Emits, Nothing, Makes, Saying}}
+use Rattle.lil_labels.specs.{declared.buffer.{Jump.Jump, Fixup.Fixup}, Entries.{get_front, get_last}, Tables.Tables, Drafts.{Draft, Adds, Emits, Nothing, Makes, Saying}}
 
 -- ---- labels
-module _ (tables : Tables) (strings bytes : List ℕ) (places more : List (Option ℕ)) (js : List Jump) (old : Draft) (view : record { tables = tables; strings = strings; bytes = bytes; places = places; jumps = js } ≡ old) (is : more ≡ places ++ None ∷ []) where
+module _ (tables : Tables) (strings bytes : List ℕ) (places more : List (Option ℕ)) (js : List Jump) (fs : List Fixup) (old : Draft) (view : record { tables = tables; strings = strings; bytes = bytes; places = places; jumps = js; fixups = fs } ≡ old) (is : more ≡ places ++ None ∷ []) where
   abbrev labelled : Draft
-  labelled = record { tables = tables; strings = strings; bytes = bytes; places = more; jumps = js }
+  labelled = record { tables = tables; strings = strings; bytes = bytes; places = more; jumps = js; fixups = fs }
 
   kept : (l : ℕ) (o : Option ℕ) → slice_get places l ≡ Some o → slice_get more l ≡ Some o
   kept l o h = ap (λ (ps : List (Option ℕ)). slice_get ps l) is ∙ get_front places (None ∷ []) l (slice_get_within places l o h) ∙ h
@@ -62,9 +62,9 @@ text_stands l strings more cs offset room begins is sound =
           ∙ words_same cs i h;
     }
 
-module _ (tables : Tables) (strings bytes all : List ℕ) (places : List (Option ℕ)) (js : List Jump) (old : Draft) (view : record { tables = tables; strings = strings; bytes = bytes; places = places; jumps = js } ≡ old) where
+module _ (tables : Tables) (strings bytes all : List ℕ) (places : List (Option ℕ)) (js : List Jump) (fs : List Fixup) (old : Draft) (view : record { tables = tables; strings = strings; bytes = bytes; places = places; jumps = js; fixups = fs } ≡ old) where
   abbrev said : Draft
-  said = record { tables = tables; strings = all; bytes = bytes; places = places; jumps = js }
+  said = record { tables = tables; strings = all; bytes = bytes; places = places; jumps = js; fixups = fs }
 
   pub string_says : (cs ws : List ℕ) (offset : ℕ) → ws ≡ words_of cs → all ≡ strings ++ ws → offset ≡ (tables.words + length strings) % 65536 → Adds (words_of cs) old said (Saying cs offset)
   string_says cs ws offset made is lies =

@@ -1,21 +1,24 @@
--- Code that is being written with labels. What is said of it holds in each final code that begins with it, whatever words its labels have.
-use Rattle.std.specs.Prelude.{◌≡◌, ◌≢◌, ℕ, ◌+◌, ◌*◌, ◌/◌, ◌%◌, ◌≤◌, true, List, [], ◌∷◌, ◌++◌, drop, length, Option, Some, None, slice_get, slice_set}
-use Rattle.lil_asm.specs.{declared.instr.Instr.{Instr, TheVariants.{Jmp, Jpf, Jan, Jor, Cas, Fri, Frn}}, Bytes.{Entry, Sayable}}
-use Rattle.lil_resolved.specs.{declared.{resolved.{RDeclared.RDeclared, RHeading.RHeading}, shapes.RShape.RShape}, Sound.is_text}
+-- Code that is being written with labels. What is said of it holds in each final code that begins with it, whatever words its labels have, and
+-- under whatever numbers modules are loaded.
+use Rattle.std.specs.Prelude.{◌≡◌, ◌≢◌, ℕ, suc, ◌+◌, ◌*◌, ◌/◌, ◌%◌, ◌<◌, ◌≤◌, true, List, [], ◌∷◌, ◌++◌, drop, length, map, Option, Some, None, slice_get, slice_set}
+use Rattle.lil_asm.specs.{declared.instr.Instr.{Instr, TheVariants.{Liw, Jmp, Jpf, Jan, Jor, Cas, Fri, Frn}}, Bytes.{Entry, Sayable}}
+use Rattle.lil_resolved.specs.{declared.{resolved.{RDeclared.RDeclared, RHeading.RHeading}, shapes.RShape.RShape}, Kinds.procedure_word, Sound.is_text}
 use Rattle.lil_table.specs.Rows.{Layout, Span, IsAt, InstrsAt, HasText}
-use Rattle.lil_labels.specs.{declared.buffer.{HeldRecord.HeldRecord, Jump.Jump, Aim.Aim}, Tables.{Tables, Describe}}
+use Rattle.lil_labels.specs.{declared.buffer.{HeldRecord.HeldRecord, Jump.Jump, Fixup.Fixup, Aim.Aim}, Tables.{Tables, Describe}}
 use Rattle.lil_labels.specs.declared.buffer.Aim.TheVariants as aim
 
--- the tables of the module, the words of the strings, the bytes, the place of each label that has one, and the jumps
+-- the tables of the module, the words of the strings, the bytes, the place of each label that has one, the jumps, and the bytes that are to hold
+-- numbers of modules
 pub record Draft : Type 0 where
   pub tables : Tables
   pub strings : List ℕ
   pub bytes : List ℕ
   pub places : List (Option ℕ)
   pub jumps : List Jump
+  pub fixups : List Fixup
 
 abbrev pub empty : List RShape → List ℕ → List RDeclared → ℕ → List RHeading → Draft
-empty shapes targets variables words procedures = record { tables = record { shapes = shapes; targets = targets; variables = variables; words = words; procedures = procedures; own = None; held = [] }; strings = []; bytes = []; places = []; jumps = [] }
+empty shapes targets variables words procedures = record { tables = record { shapes = shapes; targets = targets; variables = variables; words = words; procedures = procedures; own = None; held = [] }; strings = []; bytes = []; places = []; jumps = []; fixups = [] }
 
 -- in a procedure, by its number from 0 on, or in the body
 abbrev pub in_procedure : Option ℕ → Draft → Draft
@@ -34,10 +37,21 @@ abbrev pub AreInside : ℕ → List Jump → Type 0
 AreInside n [] = Unit {0}
 AreInside n (j ∷ js) = (j.at + 2 ≤ n) × AreInside n js
 
--- the bytes, the labels and the jumps go together
-pub record IsSound (n : ℕ) (places : List (Option ℕ)) (jumps : List Jump) : Type 0 where
+-- the fixups rise from a place on, lie in so many bytes, each with a byte behind it, and name the module itself
+abbrev pub AreFixed : (from n : ℕ) → List Fixup → Type 0
+AreFixed from n [] = Unit {0}
+AreFixed from n (f ∷ fs) = (from ≤ f.at) × (f.at + 2 ≤ n) × (f.number ≡ 0) × AreFixed (suc f.at) n fs
+
+-- the fixups lie in so many bytes
+abbrev pub AreWithin : ℕ → List Fixup → Type 0
+AreWithin n [] = Unit {0}
+AreWithin n (f ∷ fs) = (f.at < n) × AreWithin n fs
+
+-- the bytes, the labels, the jumps and the fixups go together
+pub record IsSound (n : ℕ) (places : List (Option ℕ)) (jumps : List Jump) (fixups : List Fixup) : Type 0 where
   pub inside : AreInside n jumps
   pub behind : (l q : ℕ) → slice_get places l ≡ Some (Some q) → q ≤ n
+  pub fixed : AreFixed 0 n fixups
 
 -- the bytes with a word written over two of them
 abbrev pub with_word : List ℕ → ℕ → ℕ → List ℕ
@@ -48,8 +62,20 @@ abbrev pub written : (ℕ → ℕ) → List ℕ → List Jump → List ℕ
 written word bytes [] = bytes
 written word bytes (j ∷ js) = written word (with_word bytes j.at (word j.label)) js
 
-abbrev pub code_of : Draft → (ℕ → ℕ) → List ℕ
-code_of d word = written word d.bytes d.jumps
+-- the bytes where each fixup has the number of its module
+abbrev pub numbered : (ℕ → ℕ) → List ℕ → List Fixup → List ℕ
+numbered numbers bytes [] = bytes
+numbered numbers bytes (f ∷ fs) = numbered numbers (slice_set bytes f.at (numbers f.number)) fs
+
+abbrev pub code_of : Draft → (word numbers : ℕ → ℕ) → List ℕ
+code_of d word numbers = numbered numbers (written word d.bytes d.jumps) d.fixups
+
+-- where the fixups lie
+abbrev pub place_of : Fixup → ℕ
+place_of f = f.at
+
+abbrev pub places_of : List Fixup → List ℕ
+places_of fs = map place_of fs
 
 -- the label has no place yet
 abbrev pub IsOpen : Draft → ℕ → Type 0
@@ -76,7 +102,7 @@ pub record Fits (d : Draft) (x : Final) : Type 0 where
   pub same : x.tables ≡ d.tables
   pub more : List ℕ
   pub strings : x.layout.strings ≡ d.strings ++ more
-  pub bytes : HasFrom x.from x.code (code_of d x.word)
+  pub bytes : HasFrom x.from x.code (code_of d x.word x.layout.numbers)
   pub long : length d.bytes ≤ length x.code
   pub placed : (l q : ℕ) → slice_get d.places l ≡ Some (Some q) → x.word l ≡ x.layout.target q
 
@@ -108,6 +134,10 @@ Saying cs offset x p q = (p ≡ q) × (is_text cs ≡ true → HasText x.layout 
 -- an instruction, by the words of labels
 abbrev pub Doing : ((ℕ → ℕ) → Instr) → Meaning
 Doing i x p q = IsAt x.code p (i x.word) q
+
+-- a procedure of the module as a value
+abbrev pub Naming : ℕ → Meaning
+Naming i x p q = IsAt x.code p (Liw (procedure_word (x.layout.numbers 0) i)) q
 
 abbrev pub AreSayable : List Instr → Type 0
 AreSayable [] = Unit {0}
@@ -154,6 +184,7 @@ pub record Places (old new : Draft) (l : ℕ) : Type 0 where
   pub strings : new.strings ≡ old.strings
   pub bytes : new.bytes ≡ old.bytes
   pub jumps : new.jumps ≡ old.jumps
+  pub fixups : new.fixups ≡ old.fixups
   pub places : new.places ≡ slice_set old.places l (Some (length old.bytes))
   pub was : IsOpen old l
 
@@ -193,3 +224,4 @@ pub record Notes (old new : Draft) (l : ℕ) : Type 0 where
   pub at : ℕ
   pub is : at + 2 ≡ length old.bytes
   pub jumps : new.jumps ≡ old.jumps ++ record { label = l; at = at } ∷ []
+  pub fixups : new.fixups ≡ old.fixups

@@ -4,7 +4,7 @@ use Rattle.std.specs.Prelude.{slice_get, slice_set}
 use Rattle.std.proofs.lemmas.{Option.slice_get_within, List.{length-set, take_more}}
 use Rattle.lil_resolved.specs.Kinds.{Shape}
 use Rattle.lil_table.specs.Rows.{holding}
-use Rattle.lil_labels.specs.{declared.buffer.HeldRecord.HeldRecord, Tables.{Tables, shape_held}, Drafts.{Draft, inside, outside, written, code_of, IsOpen, Final, Fits, Meaning, Adds, Emits, Nothing, Each, Marking, Places, Ends}}
+use Rattle.lil_labels.specs.{declared.buffer.HeldRecord.HeldRecord, Tables.{Tables, shape_held}, Drafts.{Draft, inside, outside, written, numbered, code_of, IsOpen, Final, Fits, Meaning, Adds, Emits, Nothing, Each, Marking, Places, Ends}}
 
 pub emits_none : (d : Draft) → Emits d d Nothing
 emits_none d = record { grows = omega arith; same = refl; strings = sym (append-nil d.strings); keeps = λ l h. h; made = omega arith; back = λ x fits. fits; meant = λ x fits low. refl }
@@ -58,7 +58,9 @@ ends_here b c l put =
     let place : Option ℕ = Some (length b.bytes) in
     let at : (k : ℕ) → slice_get c.places k ≡ slice_get (slice_set b.places l place) k = λ k. ap (λ (ps : List (Option ℕ)). slice_get ps k) put.places in
     let other : (k : ℕ) → k ≢ l → slice_get c.places k ≡ slice_get b.places k = λ k ne. at k ∙ set_other b.places k l place ne in
-    let same : (word : ℕ → ℕ) → code_of c word ≡ code_of b word = λ word. ap (λ (bs : List ℕ). written word bs c.jumps) put.bytes ∙ ap (written word b.bytes) put.jumps in
+    let before : (word : ℕ → ℕ) → written word c.bytes c.jumps ≡ written word b.bytes b.jumps = λ word. ap (λ (bs : List ℕ). written word bs c.jumps) put.bytes ∙ ap (written word b.bytes) put.jumps in
+    let same : (word numbers : ℕ → ℕ) → code_of c word numbers ≡ code_of b word numbers = λ word numbers.
+    ap (λ (bs : List ℕ). numbered numbers bs c.fixups) (before word) ∙ ap (numbered numbers (written word b.bytes b.jumps)) put.fixups in
     record {
       same = put.tables;
       strings = put.strings;
@@ -69,7 +71,7 @@ ends_here b c l put =
         same = fits.same ∙ put.tables;
         more = fits.more;
         strings = fits.strings ∙ ap (λ (ws : List ℕ). ws ++ fits.more) put.strings;
-        bytes = λ j b low h. fits.bytes j b low (ap (λ (code : List ℕ). slice_get code j) (same x.word) ∙ h);
+        bytes = λ j b low h. fits.bytes j b low (ap (λ (code : List ℕ). slice_get code j) (same x.word x.layout.numbers) ∙ h);
         long = omega (arith, fits.long, ap length put.bytes);
         placed = λ k q h. fits.placed k q (other k (λ (e : k ≡ l). cc (h, e, put.was)) ∙ h);
       };
@@ -132,7 +134,6 @@ inside_of h x = record {
     each = x.described.each;
     held = ap (λ (ws : List ℕ). h.word ∷ ws) x.described.held;
     held_shapes = ap (λ (ts : List Shape). shape_held x.tables.shapes h ∷ ts) x.described.held_shapes;
-    number = x.described.number;
   };
   room = x.room;
   word = x.word;

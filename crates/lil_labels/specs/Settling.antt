@@ -2,7 +2,7 @@
 use Rattle.std.proofs.Common.{◌≡◌, ℕ, ◌+◌, ◌/◌, ◌%◌, ◌<◌, ◌≤◌, List, [], ◌∷◌, ◌++◌, length, Option, refl, sym, ap, ◌∙◌, subst, arith, length-append, append_assoc}
 use Rattle.std.specs.Prelude.{slice_set}
 use Rattle.std.proofs.{lemmas.List.{length-set, set-append_left}, Math.Seq.set-append_seam}
-use Rattle.lil_labels.specs.{declared.buffer.Jump.Jump, Drafts.{AreInside, IsSound, with_word, written}}
+use Rattle.lil_labels.specs.{declared.buffer.{Jump.Jump, Fixup.Fixup}, Drafts.{Draft, AreInside, AreFixed, IsSound, with_word, written, code_of}, Fixing.{numbered_long, fixed_more, fixed_one}}
 
 with_word_long : (bytes : List ℕ) (at w : ℕ) → length (with_word bytes at w) ≡ length bytes
 with_word_long bytes at w = length-set (slice_set bytes at (w / 256)) (at + 1) (w % 256) ∙ length-set bytes at (w / 256)
@@ -11,6 +11,9 @@ with_word_long bytes at w = length-set (slice_set bytes at (w / 256)) (at + 1) (
 pub written_long : (word : ℕ → ℕ) (bytes : List ℕ) (js : List Jump) → length (written word bytes js) ≡ length bytes
 written_long word bytes [] = refl
 written_long word bytes (j ∷ js) = written_long word (with_word bytes j.at (word j.label)) js ∙ with_word_long bytes j.at (word j.label)
+
+pub code_long : (d : Draft) (word numbers : ℕ → ℕ) → length (code_of d word numbers) ≡ length d.bytes
+code_long d word numbers = numbered_long numbers (written word d.bytes d.jumps) d.fixups ∙ written_long word d.bytes d.jumps
 
 with_word_before : (bytes more : List ℕ) (at w : ℕ) → at + 2 ≤ length bytes → with_word (bytes ++ more) at w ≡ with_word bytes at w ++ more
 with_word_before bytes more at w inside =
@@ -62,8 +65,14 @@ written_last word bytes front a b js j h is =
     ∙ append_assoc code front (w / 256 ∷ w % 256 ∷ [])
 
 -- ---- the invariant
-pub sound_more : (m n : ℕ) (places : List (Option ℕ)) (js : List Jump) → m ≤ n → IsSound m places js → IsSound n places js
-sound_more m n places js le h = record { inside = inside_more m n js le h.inside; behind = λ l q at. omega (arith, h.behind l q at) }
+pub sound_more : (m n : ℕ) (places : List (Option ℕ)) (js : List Jump) (fs : List Fixup) → m ≤ n → IsSound m places js fs → IsSound n places js fs
+sound_more m n places js fs le h = record { inside = inside_more m n js le h.inside; behind = λ l q at. omega (arith, h.behind l q at); fixed = fixed_more 0 m n fs le h.fixed }
 
-pub sound_one : (n : ℕ) (places : List (Option ℕ)) (js ks : List Jump) (j : Jump) → j.at + 2 ≤ n → ks ≡ js ++ j ∷ [] → IsSound n places js → IsSound n places ks
-sound_one n places js ks j le e h = record { inside = subst (AreInside n) (sym e) (inside_one n js j le h.inside); behind = h.behind }
+pub sound_one : (n : ℕ) (places : List (Option ℕ)) (js ks : List Jump) (j : Jump) (fs : List Fixup) → j.at + 2 ≤ n → ks ≡ js ++ j ∷ [] → IsSound n places js fs → IsSound n places ks fs
+sound_one n places js ks j fs le e h = record { inside = subst (AreInside n) (sym e) (inside_one n js j le h.inside); behind = h.behind; fixed = h.fixed }
+
+-- a fixup more, behind the bytes before
+pub sound_fixed : (m n : ℕ) (places : List (Option ℕ)) (js : List Jump) (fs gs : List Fixup) (f : Fixup) → m ≤ f.at → f.at + 2 ≤ n → f.number ≡ 0 → gs ≡ fs ++ f ∷ [] → IsSound m places js fs → IsSound n places js gs
+sound_fixed m n places js fs gs f low high own e h =
+    let more = sound_more m n places js fs (omega (arith, low, high)) h in
+    record { inside = more.inside; behind = more.behind; fixed = subst (AreFixed 0 n) (sym e) (fixed_one 0 m n fs f (omega arith) low high own h.fixed) }

@@ -2,7 +2,7 @@
 use Rattle.std.specs.{Option.option_map, Prelude.{◌≡◌, ℕ, suc, ◌+◌, ◌-◌, ◌*◌, ◌≤◌, min, List, [], ◌∷◌, length, Option, Some, None, option_and_then, map, slice_get, nat_lt, if◌then◌else◌}, List.All}
 use Rattle.lil_resolved.specs.{declared.{resolved.{RDeclared.RDeclared, RHeading.RHeading}, shapes.{RField.RField, RElements.RElements, RShape.RShape}}, Kinds.{Outline, Shape, words, shape_at, procedure_by}, Resolved.{Named, OfModule, OfLevel}, Views.{kind_view, AreMeasured, IsMeasuredHeading, offset_of, shape_declared, locals_of, shapes_of}}
 use Rattle.lil_resolved.specs.declared.shapes.RShape.TheVariants as r
-use Rattle.lil_table.specs.Rows.{Layout, lone_number}
+use Rattle.lil_table.specs.Rows.{Layout}
 use Rattle.lil_labels.specs.declared.buffer.HeldRecord.{HeldRecord}
 
 -- the shapes, the numbers of those to which pointer types point, the variables and how many words they take, the procedures, the number of the
@@ -117,8 +117,8 @@ word_held h = h.word
 abbrev pub shape_held : List RShape → HeldRecord → Shape
 shape_held ts h = shape_at (shapes_of ts) h.shape
 
--- The shapes are measured, what pointers point to, the variables, the procedures and the records of the WITHs around are those of a layout,
--- each variable lies in 32,000 words, and the module is loaded alone.
+-- The shapes are measured, what pointers point to, the variables, the procedures and the records of the WITHs around are those of a layout, and
+-- each variable lies in 32,000 words.
 pub record Describe (t : Tables) (l : Layout) : Type 0 where
   pub measured : AreMeasured [] t.shapes
   pub targets : l.scope.targets ≡ map (shape_at (shapes_of t.shapes)) t.targets
@@ -131,4 +131,3 @@ pub record Describe (t : Tables) (l : Layout) : Type 0 where
   pub each : All (IsMeasuredHeading t.shapes) t.procedures
   pub held : l.held ≡ map word_held t.held
   pub held_shapes : l.scope.held ≡ map (shape_held t.shapes) t.held
-  pub number : l.number ≡ lone_number

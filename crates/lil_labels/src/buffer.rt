@@ -4,10 +4,10 @@ ghost use Rattle.std.specs.Prelude.{◌≡◌, ℕ, ◌≤◌, [], length, slice
 ghost use Rattle.lil_asm.specs.Bytes.{Sayable};
 ghost use Rattle.lil_resolved.specs.{Kinds.{words, shape_at}, Sizes.words_of, Views.{AreMeasured, named_view, heading_of, shapes_of}};
 ghost use Rattle.lil_labels.specs.Tables as tables;
-ghost use Rattle.lil_labels.specs.{Tables.{declared_at, heading_out, target_by, variable_by, part_in, part_by, elements_in, elements_by, last_in, last_by, below, plain_words_by, held_by}, Drafts.{empty, in_procedure, inside, outside, aimed, code_of, settled_word, Adds, Emits, Nothing, Saying, Doing, AreSayable, DoingAll, Choosing, Marking, Entering, IsOpen, Makes, Places, Ends, Notes}};
+ghost use Rattle.lil_labels.specs.{Tables.{declared_at, heading_out, target_by, variable_by, part_in, part_by, elements_in, elements_by, last_in, last_by, below, plain_words_by, held_by}, Fixing.as_said, Drafts.{empty, in_procedure, inside, outside, aimed, AreFixed, AreWithin, numbered, places_of, code_of, settled_word, Adds, Emits, Nothing, Saying, Doing, Naming, AreSayable, DoingAll, Choosing, Marking, Entering, IsOpen, Makes, Places, Ends, Notes}};
 
 use lil_asm::{Instr, encode, encode_entry};
-use lil_base::{Bytes, Memory};
+use lil_base::{Bytes, Items, Memory};
 use lil_resolved::{RDeclared, RElements, RField, RNamed, RProcedure, RShape};
 use std::alloc::Global;
 use std::collections::VecDeque;
@@ -25,6 +25,13 @@ pub struct HeldRecord {
 pub struct Jump {
     label: usize,
     at: usize,
+}
+
+/// A byte of the code, at a place, that is to hold the number of a module, by the number of its import; 0 is the module itself.
+#[derive(Clone, Copy)]
+pub struct Fixup {
+    at: usize,
+    number: u8,
 }
 
 /// The instructions that lead to a label, without it; but CAS, which has entries behind it.
@@ -204,10 +211,20 @@ fn text_words(alloc: Global, text: &[u8]) -> Result<Vec<u16>, Memory>
     Ok(words)
 }
 
+/// Writes the number of each fixup at its place.
+fn put_numbers(code: &mut Vec<u8>, fixups: &[Fixup])
+    requires { AreWithin (length code.old.items) fixups.now }
+    ensures { code.new.items ≡ numbered as_said code.old.items fixups.now }
+{
+    for fixup in fixups {
+        code[fixup.at] = fixup.number;
+    }
+}
+
 /// Code that is being written for a module: the module's shapes, by the numbers of its pointer types those of the shapes to
 /// which they point, its variables, how many words these take, its procedures and the number from 0 on of the one at hand,
 /// the words of the strings so far, the records of the WITHs around, the innermost first, the bytes so far, the place of
-/// each label that has one, and the jumps.
+/// each label that has one, the jumps, and the fixups.
 #[derive(Drop)]
 pub struct CodeBuffer<'m> {
     alloc: Global,
@@ -222,6 +239,7 @@ pub struct CodeBuffer<'m> {
     bytes: Bytes,
     places: Vec<Option<usize>>,
     jumps: Vec<Jump>,
+    fixups: Vec<Fixup>,
 }
 
 impl<'m> Model for CodeBuffer<'m> {
@@ -231,9 +249,9 @@ impl<'m> Model for CodeBuffer<'m> {
 
     ghost Value = { Draft };
 
-    ghost view = { λ c. record { tables = record { shapes = c.shapes.now; targets = c.targets.now; variables = c.variables.now; words = c.words; procedures = map heading_of c.procedures.now; own = c.own; held = c.held.items }; strings = c.strings.items; bytes = c.bytes; places = c.places.items; jumps = c.jumps.items } };
+    ghost view = { λ c. record { tables = record { shapes = c.shapes.now; targets = c.targets.now; variables = c.variables.now; words = c.words; procedures = map heading_of c.procedures.now; own = c.own; held = c.held.items }; strings = c.strings.items; bytes = c.bytes; places = c.places.items; jumps = c.jumps.items; fixups = c.fixups.items } };
 
-    ghost invariant = { λ c. IsSound (length c.bytes) c.places.items c.jumps.items };
+    ghost invariant = { λ c. IsSound (length c.bytes) c.places.items c.jumps.items c.fixups.items };
 }
 
 impl<'m> CodeBuffer<'m> {
@@ -261,6 +279,7 @@ impl<'m> CodeBuffer<'m> {
             bytes: Bytes::new(alloc),
             places: Vec::new(alloc),
             jumps: Vec::new(alloc),
+            fixups: Vec::new(alloc),
         }
     }
 
@@ -393,6 +412,16 @@ impl<'m> CodeBuffer<'m> {
         Ok(())
     }
 
+    /// LIW more, of a procedure of the module as a value. The byte of the module's number is a fixup.
+    pub fn routine(&mut self, procedure: u8) -> Result<(), Memory>
+        ensures { OnOk result (Emits self.old self.new (Naming procedure)) }
+    {
+        encode(&mut self.bytes, Instr::Liw(u16::from(procedure)))?;
+        let at = self.bytes.len() - 2;
+        self.fixups.push(Fixup { at, number: 0 })?;
+        Ok(())
+    }
+
     /// One instruction more, which leads to a label.
     pub fn jump(&mut self, aim: Aim, label: usize) -> Result<(), Memory>
         ensures { OnOk result (Emits self.old self.new (Doing (λ word. aimed aim (word label)))) }
@@ -456,9 +485,9 @@ impl<'m> CodeBuffer<'m> {
         Ok(())
     }
 
-    /// The code, in which each jump has the place of its label, cut to 16 bits.
+    /// The code, in which each jump has the place of its label, cut to 16 bits, and each fixup its number.
     pub fn settle(&self, alloc: Global) -> Result<Bytes, Memory>
-        ensures { IfOk result (λ code. code ≡ code_of self.now (settled_word self.now.places)) }
+        ensures { IfOk result (λ code. code ≡ code_of self.now (settled_word self.now.places) as_said) }
     {
         let mut code = Vec::from_slice(alloc, self.bytes.as_slice())?;
         for jump in &self.jumps {
@@ -467,7 +496,21 @@ impl<'m> CodeBuffer<'m> {
             code[at] = (word / 256) as u8;
             code[at + 1] = (word % 256) as u8;
         }
+        put_numbers(&mut code, self.fixups.as_slice());
         Ok(Bytes::of_vec(code))
+    }
+
+    /// Where the fixups lie, in code of at most 32,767 bytes. They rise, lie in the code, and name the module itself.
+    pub fn fixups(&self, alloc: Global) -> Result<Items<u16>, Memory>
+        requires { length self.now.bytes ≤ 32767 }
+        ensures places { IfOk result (λ places. places ≡ places_of self.now.fixups) }
+        ensures fixed { AreFixed 0 (length self.now.bytes) self.now.fixups }
+    {
+        let mut places = Items::new(alloc);
+        for fixup in &self.fixups {
+            places.push(fixup.at as u16)?;
+        }
+        Ok(places)
     }
 
     /// What a jump to a label has: its place, or 0 where it has none.

@@ -3,14 +3,14 @@ use Rattle.std.proofs.Common.{◌≡◌, ℕ, zero, suc, ◌+◌, ◌<◌, ◌�
 use Rattle.std.specs.{Prelude.{slice_get}, List.All}
 use Rattle.std.proofs.lemmas.Option.{none-some, same_Some}
 use Rattle.lil_resolved.specs.Resolved.{Procedure, Resolved, procedure_by}
-use Rattle.lil_table.specs.{Rows.{Layout, in_procedure, layout_of, StretchRow, ProceduresAt, Translates}, Lengths.{framed_long, procedures_long}}
+use Rattle.lil_table.specs.{Rows.{Layout, alone, in_procedure, layout_of, StretchRow, ProceduresAt, Translates}, Lengths.{framed_long, procedures_long}}
 use Rattle.lil_match.specs.Goes.{IsApart}
 use Rattle.lil_laws.specs.Loading.{Compiled, named_entries, procedure_table}
 
 -- ---- procedures one behind another
 module _ (strings : List ℕ) (text : Resolved) (code : List ℕ) where
   abbrev l : Layout
-  l = layout_of strings text
+  l = layout_of alone strings text
 
   -- the code of a procedure, by its number, and its place among the entries
   pub record StandsAt (table : List (ℕ × Option (List ℕ))) (i p : ℕ) (its : Procedure) (low high : ℕ) : Type 0 where
@@ -78,7 +78,7 @@ module _ (o : Compiled) where
   body_long = omega (arith, framed_long _ _ None [] [] o.text.body 0 o.translates.middle o.translates.body)
 
   pub body_within : o.translates.middle ≤ length o.code
-  body_within = omega (arith, procedures_long (layout_of o.strings o.text) o.code 1 o.text.procedures o.entries o.translates.middle (length o.code) o.translates.procedures)
+  body_within = omega (arith, procedures_long (layout_of alone o.strings o.text) o.code 1 o.text.procedures o.entries o.translates.middle (length o.code) o.translates.procedures)
 
   pub body_apart : IsApart (procedure_table o.text o.entries) 0 0 o.translates.middle
   body_apart zero e name is = inl refl
@@ -90,7 +90,7 @@ module _ (o : Compiled) where
     pub after : ℕ
     pub within : after ≤ length o.code
     pub apart : IsApart (procedure_table o.text o.entries) p entry after
-    pub row : StretchRow (in_procedure (layout_of o.strings o.text) p its) o.code its.result its.locals (take its.parameters its.locals) its.body entry after
+    pub row : StretchRow (in_procedure (layout_of alone o.strings o.text) p its) o.code its.result its.locals (take its.parameters its.locals) its.body entry after
 
   pub entry_row : (p : ℕ) (its : Procedure) → procedure_by o.text.procedures p ≡ Some its → EntryRow p its
   entry_row zero its is = absurd (none-some its is)
@@ -100,7 +100,7 @@ module _ (o : Compiled) where
     after = r.after;
     within = r.ends;
     apart = apart;
-    row = let next : 1 + p ≡ suc p = omega arith in subst (λ (k : ℕ). StretchRow (in_procedure (layout_of o.strings o.text) k its) o.code its.result its.locals (take its.parameters its.locals) its.body r.entry r.after) next r.row;
+    row = let next : 1 + p ≡ suc p = omega arith in subst (λ (k : ℕ). StretchRow (in_procedure (layout_of alone o.strings o.text) k its) o.code its.result its.locals (take its.parameters its.locals) its.body r.entry r.after) next r.row;
   }
     where
       r : StandsAt o.strings o.text o.code (named_entries o.text.procedures o.entries) p (1 + p) its o.translates.middle (length o.code)
@@ -120,7 +120,7 @@ as_many l code n [] (e ∷ es) p q h = absurd h
 as_many l code n (a ∷ ps) [] p q h = absurd h
 
 pub entries_many : (m : Resolved) (strings entries code : List ℕ) → Translates m strings entries code → length entries ≡ length m.procedures
-entries_many m strings entries code t = as_many (layout_of strings m) code 1 m.procedures entries t.middle (length code) t.procedures
+entries_many m strings entries code t = as_many (layout_of alone strings m) code 1 m.procedures entries t.middle (length code) t.procedures
 
 -- and each lies in the code
 low_entries : (l : Layout) (exact : (n : ℕ) → l.target n ≡ n) (code : List ℕ) (n : ℕ) (ps : List Procedure) (es : List ℕ) (p q : ℕ) → ProceduresAt l code n ps es p q → (k d : ℕ) → k < length es → get_or es k d < q
@@ -132,4 +132,4 @@ low_entries l exact code n [] (e ∷ es) p q h k d less = absurd h
 low_entries l exact code n (a ∷ ps) [] p q h k d less = absurd h
 
 pub entries_low : (m : Resolved) (strings entries code : List ℕ) → Translates m strings entries code → All (λ e. e < length code) entries
-entries_low m strings entries code t k d less = low_entries (layout_of strings m) (λ n. refl) code 1 m.procedures entries t.middle (length code) t.procedures k d less
+entries_low m strings entries code t k d less = low_entries (layout_of alone strings m) (λ n. refl) code 1 m.procedures entries t.middle (length code) t.procedures k d less

@@ -9,7 +9,7 @@ use Rattle.lil_asm.specs.{declared.instr.Instr.TheVariants.{Rtn}, Stretches.{str
 use Rattle.lil_mcode.specs.{declared.machine.Event.TheVariants.Went, Table.{State, enter_row, fetched, performed}}
 use Rattle.lil_frames.specs.Words.{zeros, cleared}
 use Rattle.lil_asm.specs.declared.instr.Instr.TheVariants.{Ent}
-use Rattle.lil_table.specs.Rows.{lone_number, IsAt, framed, in_procedure, layout_of}
+use Rattle.lil_table.specs.Rows.{lone_number, alone, IsAt, framed, in_procedure, layout_of}
 use Rattle.lil_match.specs.{Goes.{IsKnown, EachComes, HasLocals, EachLocal, Shared}, Running.{Run, mrun, running, advanced}, Parts.no, Homes.{Listed, Home}, Waits.{Frame, is_of, Setting, Quiet, outside, RowsOf, Rows, Ahead, Behind}, Steps.{advances, at_once, rows_ahead}, Orders.instr_within, Splices.{spliced_length, spliced_before, zeros_length}}
 use Rattle.lil_laws_stmt.specs.Control.{body_rows}
 use Rattle.lil_laws.specs.{Loading.{Compiled, text_of, data_end, entry_for, table_from, numbers_from, data_placed, image}, Placing.{place_from, variable_from, text_at, table_there, variable_offset, HasData, data_length, has_data, string_fixed, strings_low, home, above, owner_own, owner_free, mem}}
@@ -34,7 +34,7 @@ module _ (os : List Compiled) where
     entry = 0;
     after = b.its.translates.middle;
     piece = stretch 0 b.its.translates.middle b.its.code;
-    layout = layout_of b.its.strings b.its.text;
+    layout = layout_of alone b.its.strings b.its.text;
     at = data_end 1 os;
     pushed = 0;
     copied = 0;
@@ -127,7 +127,7 @@ module _ (os : List Compiled) where
       codes = λ p q there.
           let e = entry_row b.its p q (ap (λ (m : Option Resolved). procedure_by (procedures_of m) p) (sym (text b)) ∙ there) in
           record {
-            inner = in_procedure (layout_of b.its.strings b.its.text) p q;
+            inner = in_procedure (layout_of alone b.its.strings b.its.text) p q;
             part = refl;
             frame = refl;
             chain = refl;

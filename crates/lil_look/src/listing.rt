@@ -16,7 +16,7 @@ use lil_read_unit::read;
 use lil_resolved::RModule;
 use lil_session::{Volume, VolumeError};
 use lil_text::{ReadStop, Token};
-use lil_unit::{GenStop, ModuleCode, generate};
+use lil_unit::{GenStop, ModuleCode, generate_alone};
 use std::alloc::Global;
 
 fn show_module(page: &mut Page, of: &Unit, module: &RModule) -> Result<(), Memory> {
@@ -96,7 +96,7 @@ fn checked(
         Err(ReadStop::Fault(_)) => return Ok(None),
         Err(ReadStop::Memory) => return Err(Memory),
     };
-    match generate(alloc, &module) {
+    match generate_alone(alloc, &module) {
         Ok(made) => Ok(Some(show(alloc, text, tokens, of, &module, &made)?)),
         Err(GenStop::CodeTooLong { bytes: _ }) => Ok(None),
         Err(GenStop::Memory) => Err(Memory),

@@ -181,7 +181,7 @@ module _ (library : List Resolved) (loaded : List ℕ) (table : List Module) (ac
     pub signatures : f.layout.scope.signatures ≡ h.listed.signatures
     pub outlines : f.layout.scope.procedures ≡ h.listed.procedures
     pub here : f.number ≡ h.listed.number
-    pub number : f.layout.number ≡ f.number
+    pub number : f.layout.numbers 0 ≡ f.number
 
   abbrev pub EachKnown : List Frame → Type 0
   EachKnown [] = Unit {0}

@@ -63,7 +63,7 @@ module _ (library : List Resolved) (loaded : List ℕ) (table : List Module) (ac
     signatures = ap (λ (y : Layout). y.scope.signatures) part ∙ k.signatures;
     outlines = ap (λ (y : Layout). y.scope.procedures) part ∙ k.outlines;
     here = k.here;
-    number = ap (λ (y : Layout). y.number) part ∙ k.number;
+    number = ap (λ (y : Layout). y.numbers 0) part ∙ k.number;
   }
 
 -- the roots that are none of their variables don't hang on a layout

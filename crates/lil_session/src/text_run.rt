@@ -12,7 +12,7 @@ use lil_language::Unit;
 use lil_read_unit::read;
 use lil_resolved::RModule;
 use lil_text::ReadStop;
-use lil_unit::{GenStop, generate};
+use lil_unit::{GenStop, generate_alone};
 use lil_volume::{Keyboard, Sink, Volume, VolumeError};
 use std::alloc::Global;
 
@@ -52,7 +52,7 @@ fn run_module<S: Sink>(
     requires fits { all_words (module_of m.now).variables + length (module_strings (module_of m.now)) ≤ 32000 }
     ensures { Carried (coded name (module_of m.now)) steps (S.written screen.old) (S.faults screen.old) (S.written screen.new) (S.faults screen.new) result }
 {
-    match generate(alloc, m) {
+    match generate_alone(alloc, m) {
         Err(stop) => not_generated(stop, name),
         Ok(made) => run_program(alloc, m, &made, steps, screen),
     }

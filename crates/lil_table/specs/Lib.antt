@@ -1,3 +1,4 @@
 pub mod LabelLaws
 pub mod Lengths
+pub mod Patching
 pub mod Rows

@@ -13,7 +13,8 @@ use Rattle.lil_asm.specs.{Bytes.{word_at, decoded}, Requests.request_words, Stre
 
 -- Where the variables of a module lie in its data frame, by their numbers; the shapes that names reach, and the words of the frame that
 -- have the addresses of the records of the WITHs around, the innermost first; how many words the variables take, and the words of the
--- strings behind them; the words of the frame; how a place in a jump and a number of entries are written; and the number of the module.
+-- strings behind them; the words of the frame; how a place in a jump and a number of entries are written; and the numbers under which modules
+-- are loaded, by the numbers of imports, of which 0 is the module itself.
 pub record Layout : Type 0 where
   pub offsets : List ℕ
   pub scope : Scope
@@ -22,7 +23,7 @@ pub record Layout : Type 0 where
   pub strings : List ℕ
   pub frame : ℕ
   pub target : ℕ → ℕ
-  pub number : ℕ
+  pub numbers : ℕ → ℕ
 
 -- a number as it is, and cut to 16 bits
 abbrev pub exactly : ℕ → ℕ
@@ -35,8 +36,11 @@ cut q = q % 65536
 abbrev pub lone_number : ℕ
 lone_number = 1
 
-abbrev pub layout_by : (ℕ → ℕ) → List ℕ → Resolved → Layout
-layout_by target strings m = record {
+abbrev pub alone : ℕ → ℕ
+alone n = lone_number
+
+abbrev pub layout_by : (target numbers : ℕ → ℕ) → List ℕ → Resolved → Layout
+layout_by target numbers strings m = record {
   offsets = offsets_from 0 m.variables;
   scope = scope_in m [];
   held = [];
@@ -44,11 +48,11 @@ layout_by target strings m = record {
   strings = strings;
   frame = frame_words [] m.body;
   target = target;
-  number = lone_number;
+  numbers = numbers;
 }
 
-abbrev pub layout_of : List ℕ → Resolved → Layout
-layout_of strings m = layout_by exactly strings m
+abbrev pub layout_of : (ℕ → ℕ) → List ℕ → Resolved → Layout
+layout_of numbers strings m = layout_by exactly numbers strings m
 
 -- in a procedure of the module, by its number
 abbrev pub in_procedure : Layout → ℕ → Procedure → Layout
@@ -575,7 +579,7 @@ pub record CallRow (l : Layout) (code : List ℕ) (x n : ℕ) (result : Option K
 pub record RoutineRow (l : Layout) (code : List ℕ) (x n p q : ℕ) : Type 0 where
   pub may : MayHold l.scope x n
   pub low : x < 256
-  pub load : IsAt code p (Liw (procedure_word l.number x)) q
+  pub load : IsAt code p (Liw (procedure_word (l.numbers 0) x)) q
 
 -- what follows the value of a procedure type that is called: a mark, the arguments, and the call
 pub record ValueCallRow (l : Layout) (code : List ℕ) (k : Kind) (result : Option Kind) (given : Arguments) (pushes : Span) (p q : ℕ) : Type 0 where
@@ -1038,6 +1042,10 @@ pub record TranslatesBy (l : Layout) (m : Resolved) (entries code : List ℕ) : 
   pub body : StretchRow l code None [] [] m.body 0 middle
   pub procedures : ProceduresAt l code 1 m.procedures entries middle (length code)
 
--- the strings and the code of a program module, whose numbers are written as they are
+-- the strings and the code of a program module, whose numbers are written as they are, where modules are loaded under these numbers
+abbrev pub TranslatesAs : (ℕ → ℕ) → Resolved → (strings entries code : List ℕ) → Type 0
+TranslatesAs numbers m strings entries code = TranslatesBy (layout_of numbers strings m) m entries code
+
+-- where it is loaded alone
 abbrev pub Translates : Resolved → (strings entries code : List ℕ) → Type 0
-Translates m strings entries code = TranslatesBy (layout_of strings m) m entries code
+Translates m strings entries code = TranslatesAs alone m strings entries code

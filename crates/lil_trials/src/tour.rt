@@ -7,7 +7,7 @@ use lil_lexer::tokens;
 use lil_mcode::Event;
 use lil_read_unit::read;
 use lil_text::{Mark, Token, TokenKind};
-use lil_unit::{ModuleCode, generate};
+use lil_unit::{ModuleCode, generate_alone};
 use lil_volume::RamSink;
 use std::alloc::Global;
 use std::test::Fail;
@@ -82,7 +82,7 @@ fn code_of(alloc: Global, name: &[u8], text: &[u8]) -> Result<ModuleCode, Fail> 
     let Ok(module) = check_program(alloc, &name, &unit) else {
         return Err(Fail::from(Memory));
     };
-    Ok(generate(alloc, &module).map_err(|_| Memory)?)
+    Ok(generate_alone(alloc, &module).map_err(|_| Memory)?)
 }
 
 /// The code of Tour.MOD: the column of bytes in section 7.

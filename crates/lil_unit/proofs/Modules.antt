@@ -1,11 +1,11 @@
 -- The code of a whole module, settled.
 use Rattle.std.proofs.Common.{false, ◌≡◌, ℕ, zero, suc, ◌+◌, ◌%◌, ◌<◌, ◌≤◌, List, [], ◌∷◌, ◌++◌, length, take, get_or, Option, Some, None, refl, sym, ap, ◌∙◌, subst, arith, append-nil, append_assoc}
-use Rattle.std.specs.{Prelude.{slice_get, map}, Option.option_map, List.All}
+use Rattle.std.specs.{Prelude.{slice_get, map}, Option.option_map, List.{All, Sorted.IsStrictlyIncreasing}}
 use Rattle.std.proofs.lemmas.{Option.{none-some, same_Some, slice_get-map, slice_get_within}, List.{length-map, length-take-le, take_all, get_or-map, map_more}, Simd.map-map}
 use Rattle.lil_resolved.specs.{declared.{resolved.{RModule.RModule, RHeading.RHeading, RProcedure.RProcedure, RDeclared.RDeclared, RPassing.{RPassing, TheVariants.{ByValue, ByPlace, Open}}, ROpening.TheVariants.{Copied, Lent}}, shapes.RShape.RShape}, Kinds.{Kind, Shape, Opened, words, all_words, shape_at, offsets_from}, Plain.{IsPlain, plain_at}, Resolved.{Statements, Procedure, Resolved, outline_of, scope_in}, Sizes.{body_words, body_strings, procedures_strings, module_strings, code_size, frame_words}, Views.{kind_view, offset_of, held_by, shape_declared, shapes_of, statements_of, locals_of, heading_of, procedure_of, module_of, IsMeasured, IsMeasuredHeading}, Sound.{IsSoundBody, IsSound}}
 use Rattle.lil_asm.specs.{declared.instr.Instr.{Instr, TheVariants.{Ent, Cpy}}, Stretches.{stretch, stretch_long, stretch_short, stretch_has}}
-use Rattle.lil_table.specs.{Rows.{framed, leave_code, copy_code, copies_code, loop_place, IsAt, InstrsAt, Layout, StretchRow, ProceduresAt, in_procedure as layout_in, TranslatesBy, Translates, layout_by, exactly, cut}, Lengths.{framed_long, procedures_long, module_long}}
-use Rattle.lil_labels.specs.{Tables.{Tables, Describe, chain_from, chain_of, outline_with}, Drafts.{Draft, empty, in_procedure, Final, Fits, Meaning, Adds, Emits, Doing, code_of, settled_word, word_in}, Settling.written_long, Emitting.{emits_then, emits_as, adds_as, emits_tied, take_next}}
+use Rattle.lil_table.specs.{Rows.{framed, leave_code, copy_code, copies_code, loop_place, IsAt, InstrsAt, Layout, StretchRow, ProceduresAt, in_procedure as layout_in, TranslatesBy, TranslatesAs, layout_by, exactly, cut}, Patching.patched, Lengths.{framed_long, procedures_long, module_long}}
+use Rattle.lil_labels.specs.{Tables.{Tables, Describe, chain_from, chain_of, outline_with}, Drafts.{Draft, empty, in_procedure, Final, Fits, Meaning, Adds, Emits, Doing, AreFixed, written, places_of, code_of, settled_word, word_in}, Fixing.{as_said, patched_numbers, fixups_rise, names_itself}, Settling.{written_long, code_long}, Emitting.{emits_then, emits_as, adds_as, emits_tied, take_next}}
 use Rattle.lil_stmt.specs.Generating.{Body}
 use Rattle.lil_unit.specs.Framing.{AreFramed, Copying, copy_passed, copy_declared, copies_declared, Framed, tables_in, IsStretch, Apart, EachFramed, AllFramed}
 
@@ -123,7 +123,6 @@ entered own x = record {
     each = x.described.each;
     held = x.described.held;
     held_shapes = x.described.held_shapes;
-    number = x.described.number;
   };
   room = x.room;
   word = x.word;
@@ -139,8 +138,9 @@ fits_apart own a b x y grows fits low is = record {
   more = fits.more;
   strings = is.strings ∙ fits.strings;
   bytes = λ j c above at.
-      let here : slice_get (code_of b x.word) j ≡ Some c = ap (λ (w : ℕ → ℕ). slice_get (code_of b w) j) (sym is.word) ∙ at in
-      let inside : j < length b.bytes = omega (arith, slice_get_within (code_of b x.word) j c here, written_long x.word b.bytes b.jumps) in
+      let here : slice_get (code_of b x.word x.layout.numbers) j ≡ Some c =
+      ap (λ (w : ℕ → ℕ). slice_get (code_of b w x.layout.numbers) j) (sym is.word) ∙ ap (λ (ns : ℕ → ℕ). slice_get (code_of b y.word ns) j) (sym is.numbers) ∙ at in
+      let inside : j < length b.bytes = omega (arith, slice_get_within (code_of b x.word x.layout.numbers) j c here, code_long b x.word x.layout.numbers) in
       let first : length a.bytes ≤ j = omega (arith, above, is.from) in
       ap (λ (code : List ℕ). slice_get code j) is.code ∙ stretch_has (length a.bytes) (length b.bytes) x.code j first inside ∙ fits.bytes j c (omega (arith, low, first)) here;
   long = omega (arith, ap length is.code, stretch_long (length a.bytes) (length b.bytes) x.code fits.long);
@@ -230,11 +230,11 @@ module _ (r : RModule) (entries : List ℕ) (d : Draft) (sound : IsSound (module
   tables own = record { shapes = r.shapes; targets = r.targets; variables = r.variables; words = r.words; procedures = headings; own = own; held = [] }
 
   -- the layout of statements in a procedure, or in the body
-  abbrev laid : (ℕ → ℕ) → List ℕ → List Shape → Statements → Layout
-  laid target chain locals ss = record (layout_by target d.strings m) { scope = scope_in m chain; frame = frame_words locals ss }
+  abbrev laid : (target numbers : ℕ → ℕ) → List ℕ → List Shape → Statements → Layout
+  laid target numbers chain locals ss = record (layout_by target numbers d.strings m) { scope = scope_in m chain; frame = frame_words locals ss }
 
-  described : (target : ℕ → ℕ) (own : Option ℕ) (chain : List ℕ) (locals : List Shape) (ss : Statements) → chain ≡ chain_of headings own → Describe (tables own) (laid target chain locals ss)
-  described target own chain locals ss is = record {
+  described : (target numbers : ℕ → ℕ) (own : Option ℕ) (chain : List ℕ) (locals : List Shape) (ss : Statements) → chain ≡ chain_of headings own → Describe (tables own) (laid target numbers chain locals ss)
+  described target numbers own chain locals ss is = record {
     measured = measured.shapes;
     targets = refl;
     shapes = refl;
@@ -246,7 +246,6 @@ module _ (r : RModule) (entries : List ℕ) (d : Draft) (sound : IsSound (module
     each = measured.procedures;
     held = refl;
     held_shapes = refl;
-    number = refl;
   }
 
   -- a procedure and those around it
@@ -257,22 +256,26 @@ module _ (r : RModule) (entries : List ℕ) (d : Draft) (sound : IsSound (module
       by None h = absurd (none-some its h)
       by (Some p) h = ap (λ (q : Procedure). suc i ∷ q.around) (sym (same_Some (procedure_of r.shapes p) its h))
 
-  abbrev code : List ℕ
-  code = code_of d (settled_word d.places)
+  -- the settled code, where modules have these numbers
+  abbrev code : (ℕ → ℕ) → List ℕ
+  code numbers = code_of d (settled_word d.places) numbers
+
+  long : (numbers : ℕ → ℕ) → length (code numbers) ≡ length d.bytes
+  long numbers = code_long d (settled_word d.places) numbers
 
   pub strings_are : d.strings ≡ module_strings m
   strings_are = emitted.strings
 
   -- numbers up to that of the bytes are written cut to 16 bits
   abbrev Cuts : (ℕ → ℕ) → Type 0
-  Cuts target = (n : ℕ) → n ≤ length code → target n ≡ n % 65536
+  Cuts target = (n : ℕ) → n ≤ length d.bytes → target n ≡ n % 65536
 
   -- a part of the code, and what stands in it
-  settled : (target : ℕ → ℕ) (own : Option ℕ) (chain : List ℕ) (locals : List Shape) (ss : Statements) → chain ≡ chain_of headings own → Cuts target → (from : ℕ) (part : List ℕ) → length part ≤ length code → Final
-  settled target own chain locals ss is cuts from part short = record {
+  settled : (target numbers : ℕ → ℕ) (own : Option ℕ) (chain : List ℕ) (locals : List Shape) (ss : Statements) → chain ≡ chain_of headings own → Cuts target → (from : ℕ) (part : List ℕ) → length part ≤ length d.bytes → Final
+  settled target numbers own chain locals ss is cuts from part short = record {
     tables = tables own;
-    layout = laid target chain locals ss;
-    described = described target own chain locals ss is;
+    layout = laid target numbers chain locals ss;
+    described = described target numbers own chain locals ss is;
     room = omega (arith, fits, ap length strings_are);
     word = settled_word d.places;
     from = from;
@@ -281,51 +284,73 @@ module _ (r : RModule) (entries : List ℕ) (d : Draft) (sound : IsSound (module
   }
 
   -- where each place has its word, the settled code is a translation
-  module _ (target : ℕ → ℕ) (cuts : Cuts target) (words : (l q : ℕ) → slice_get d.places l ≡ Some (Some q) → q % 65536 ≡ target q) where
+  module _ (target numbers : ℕ → ℕ) (cuts : Cuts target) (words : (l q : ℕ) → slice_get d.places l ≡ Some (Some q) → q % 65536 ≡ target q) where
+    abbrev final : List ℕ
+    final = code numbers
+
     x : Final
-    x = settled target None [] [] m.body refl cuts 0 code (omega arith)
+    x = settled target numbers None [] [] m.body refl cuts 0 final (omega (arith, long numbers))
 
     framed_at : (own : Option ℕ) (chain : List ℕ) (result : Option Kind) (locals parameters : List Shape) (ss : Statements) (p q : ℕ) → chain ≡ chain_of headings own → IsSoundBody (scope_in m chain) false ss → Apart own (Framed result locals parameters ss) x p q
-        → StretchRow (laid target chain locals ss) code result locals parameters ss p q
+        → StretchRow (laid target numbers chain locals ss) final result locals parameters ss p q
     unfolding settled x
     framed_at own chain result locals parameters ss p q is right t =
-        let f = t (settled target own chain locals ss is cuts p (stretch p q code) (stretch_short p q code)) (record { tables = refl; strings = refl; target = refl; word = refl; from = refl; code = refl }) in
+        let f = t (settled target numbers own chain locals ss is cuts p (stretch p q final) (omega (arith, stretch_short p q final, long numbers))) (record { tables = refl; strings = refl; target = refl; numbers = refl; word = refl; from = refl; code = refl }) in
         record { begun = f.begun; start = f.start; end = f.end; enter = f.enter; copies = f.copies; body = f.body (all_words locals) refl right (omega arith); leave = f.leave }
 
-    procedures_at : (i : ℕ) (ps : List Procedure) (es : List ℕ) (p q : ℕ) → q ≤ length code → ((k : ℕ) (its : Procedure) → slice_get ps k ≡ Some its → slice_get m.procedures (i + k) ≡ Some its)
-        → EachFramed i ps es x p q → ProceduresAt (layout_by target d.strings m) code (suc i) ps es p q
+    procedures_at : (i : ℕ) (ps : List Procedure) (es : List ℕ) (p q : ℕ) → q ≤ length final → ((k : ℕ) (its : Procedure) → slice_get ps k ≡ Some its → slice_get m.procedures (i + k) ≡ Some its)
+        → EachFramed i ps es x p q → ProceduresAt (layout_by target numbers d.strings m) final (suc i) ps es p q
     procedures_at i [] [] p q inside those h = h
     procedures_at i (its ∷ ps) (e ∷ es) p q inside those h =
-        let l = layout_by target d.strings m in
+        let l = layout_by target numbers d.strings m in
         let first : i + 0 ≡ i = omega arith in
         let at = subst (λ (j : ℕ). slice_get m.procedures j ≡ Some its) first (those 0 its refl) in
         let here = framed_at (Some i) (suc i ∷ its.around) its.result its.locals (take its.parameters its.locals) its.body p h.0 (chain_is i its at) (sound.procedures (suc i) its at) h.2 in
         let then = procedures_at (suc i) ps es h.0 q inside (λ k a is. let next : i + suc k ≡ suc i + k = omega arith in subst (λ (j : ℕ). slice_get m.procedures j ≡ Some a) next (those (suc k) a is)) h.3 in
-        let before : p ≤ length code = omega (arith, inside, framed_long (layout_in l (suc i) its) (stretch p h.0 code) its.result its.locals (take its.parameters its.locals) its.body p h.0 here, procedures_long l code (suc (suc i)) ps es h.0 q then) in
+        let before : p ≤ length d.bytes = omega (arith, inside, long numbers, framed_long (layout_in l (suc i) its) (stretch p h.0 final) its.result its.locals (take its.parameters its.locals) its.body p h.0 here, procedures_long l final (suc (suc i)) ps es h.0 q then) in
         (h.1 ∙ sym (cuts p before), record { middle = h.0; here = here; then = then })
     procedures_at i [] (e ∷ es) p q inside those h = absurd h
     procedures_at i (its ∷ ps) [] p q inside those h = absurd h
 
-    settled_translates : TranslatesBy (layout_by target d.strings m) m entries code
+    settled_translates : TranslatesBy (layout_by target numbers d.strings m) m entries final
     unfolding settled x
     settled_translates =
-        let long = written_long (settled_word d.places) d.bytes d.jumps in
-        let begins : Fits (in_procedure None d) x = record { same = sym emitted.same; more = []; strings = sym (append-nil d.strings); bytes = λ j b low at. at; long = omega (arith, long); placed = λ l q h. ap word_in h ∙ words l q h } in
+        let same_long = long numbers in
+        let begins : Fits (in_procedure None d) x = record { same = sym emitted.same; more = []; strings = sym (append-nil d.strings); bytes = λ j b low at. at; long = omega (arith, same_long); placed = λ l q h. ap word_in h ∙ words l q h } in
         let t = emitted.meant x begins (omega arith) in
         record {
           middle = t.0;
           body = framed_at None [] None [] [] m.body 0 t.0 refl sound.body t.1;
-          procedures = subst (λ (q : ℕ). ProceduresAt (layout_by target d.strings m) code 1 m.procedures entries t.0 q) (sym long) (procedures_at 0 m.procedures entries t.0 _ (omega (arith, long)) (λ k its at. let same : k ≡ 0 + k = omega arith in subst (λ (j : ℕ). slice_get m.procedures j ≡ Some its) same at) t.2);
+          procedures = subst (λ (q : ℕ). ProceduresAt (layout_by target numbers d.strings m) final 1 m.procedures entries t.0 q) (sym same_long) (procedures_at 0 m.procedures entries t.0 _ (omega (arith, same_long)) (λ k its at. let same : k ≡ 0 + k = omega arith in subst (λ (j : ℕ). slice_get m.procedures j ≡ Some its) same at) t.2);
         }
 
-  pub settled_long : length code ≡ code_size m
-  settled_long = module_long (layout_by cut d.strings m) m entries code (settled_translates cut (λ n less. refl) (λ l q h. refl))
+  pub settled_long : (numbers : ℕ → ℕ) → length (code numbers) ≡ code_size m
+  settled_long numbers = module_long (layout_by cut numbers d.strings m) m entries (code numbers) (settled_translates cut numbers (λ n less. refl) (λ l q h. refl))
 
   pub draft_long : length d.bytes ≡ code_size m
-  draft_long = sym (written_long (settled_word d.places) d.bytes d.jumps) ∙ settled_long
+  draft_long = sym (long as_said) ∙ settled_long as_said
 
   -- where the code is short, that is with the numbers as they are
-  pub exact : length d.bytes ≤ 32767 → ((l q : ℕ) → slice_get d.places l ≡ Some (Some q) → q ≤ length d.bytes) → Translates m (module_strings m) entries code
-  exact short behind =
-      subst (λ (strings : List ℕ). Translates m strings entries code) strings_are
-      (settled_translates exactly (λ n less. omega (arith, less, settled_long, draft_long, short)) (λ l q h. omega (arith, behind l q h, short)))
+  pub exact : length d.bytes ≤ 32767 → ((l q : ℕ) → slice_get d.places l ≡ Some (Some q) → q ≤ length d.bytes) → (numbers : ℕ → ℕ) → TranslatesAs numbers m (module_strings m) entries (code numbers)
+  exact short behind numbers =
+      subst (λ (strings : List ℕ). TranslatesAs numbers m strings entries (code numbers)) strings_are
+      (settled_translates exactly numbers (λ n less. omega (arith, less, short)) (λ l q h. omega (arith, behind l q h, short)))
+
+  -- the code as it is settled, with its fixups
+  module _ (made places : List ℕ) (fixed : AreFixed 0 (length d.bytes) d.fixups) (is : made ≡ code as_said) (at : places ≡ places_of d.fixups) where
+    abbrev before : List ℕ
+    before = written (settled_word d.places) d.bytes d.jumps
+
+    within : AreFixed 0 (length before) d.fixups
+    within = subst (λ (n : ℕ). AreFixed 0 n d.fixups) (sym (written_long (settled_word d.places) d.bytes d.jumps)) fixed
+
+    pub patched_code : (numbers : ℕ → ℕ) → patched numbers made places ≡ code numbers
+    patched_code numbers = ap (patched numbers made) at ∙ ap (λ (c : List ℕ). patched numbers c (places_of d.fixups)) is ∙ patched_numbers numbers 0 before d.fixups within
+
+    pub places_rise : IsStrictlyIncreasing places
+    places_rise = subst IsStrictlyIncreasing (sym at) (fixups_rise 0 (length d.bytes) d.fixups fixed)
+
+    pub names_itself_there : All (λ p. slice_get made p ≡ Some 0) places
+    names_itself_there =
+        subst (λ (ps : List ℕ). All (λ p. slice_get made p ≡ Some 0) ps) (sym at)
+        (subst (λ (c : List ℕ). All (λ p. slice_get c p ≡ Some 0) (places_of d.fixups)) (sym is) (names_itself 0 before d.fixups within))

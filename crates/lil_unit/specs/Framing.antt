@@ -53,6 +53,7 @@ pub record IsStretch (own : Option ℕ) (x : Final) (p q : ℕ) (y : Final) : Ty
   pub tables : y.tables ≡ tables_in own x.tables
   pub strings : y.layout.strings ≡ x.layout.strings
   pub target : y.layout.target ≡ x.layout.target
+  pub numbers : y.layout.numbers ≡ x.layout.numbers
   pub word : y.word ≡ x.word
   pub from : y.from ≡ p
   pub code : y.code ≡ stretch p q x.code

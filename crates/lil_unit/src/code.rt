@@ -1,10 +1,10 @@
 //! The code of a program module: its body, and behind it its procedures, each with its frame, its statements and its end.
 
-ghost use Rattle.std.specs.{Prelude.{◌≡◌, ◌+◌, ◌<◌, ◌≤◌, ℕ, List, [], ◌∷◌, take, length, map, min, None, IfOk, OnOk, Err}, List.All, Option.option_map};
+ghost use Rattle.std.specs.{Prelude.{◌≡◌, ◌+◌, ◌<◌, ◌≤◌, ℕ, List, [], ◌∷◌, take, length, map, min, None, IfOk, OnOk, OnErr, Err, Some, slice_get, slice_set}, List.{All, Sorted.IsStrictlyIncreasing}, Option.option_map};
 ghost use Rattle.lil_resolved.specs.{Kinds.{Shape, all_words}, Views.{kind_view, IsMeasured, IsMeasuredHeading, statements_of, heading_of, procedure_of, module_of}, Sound.IsSound, Sizes.{body_strings, procedures_strings, module_strings}};
 ghost use Rattle.lil_resolved.specs.Sizes as spec;
 ghost use Rattle.lil_asm.specs.Bytes.{Sayable};
-ghost use Rattle.lil_table.specs.Rows.{framed, leave_code, Translates};
+ghost use Rattle.lil_table.specs.{Rows.{framed, leave_code, TranslatesAs, Translates}, Patching.patched};
 ghost use Rattle.lil_labels.specs.Drafts.{Adds, Emits, empty, in_procedure};
 ghost use Rattle.lil_unit.specs.Framing.{AreFramed, Copying, Framed, EachFramed, AllFramed};
 
@@ -16,17 +16,23 @@ use lil_resolved::{RDeclared, RKind, RModule, ROpening, RPassing, RProcedure, RS
 use lil_stmt::{Around, emit_body, frame_words};
 use std::alloc::Global;
 
-/// The code of a program module, where each of its procedures begins in it, and the words of the strings that lie behind the
-/// module's variables, one a character, or a 0 for an empty string.
+/// The code of a program module, its fixups, where each of its procedures begins in it, and the words of the strings that lie
+/// behind the module's variables, one a character, or a 0 for an empty string. A fixup is the place of a byte that names a
+/// module by the number of its import, and the module itself by 0; loading puts the number there under which that module is
+/// loaded.
 #[derive(Drop)]
 pub struct ModuleCode {
     pub code: Bytes,
+    pub fixups: Items<u16>,
     pub entries: Items<u16>,
     pub strings: Vec<u16>,
 }
 
 /// How many bytes a module's code may have.
 const LONGEST: usize = 32_767;
+
+/// The number of a module that is loaded alone.
+const ALONE: u8 = 1;
 
 /// A number of bytes, or 4,294,967,295 where it is more.
 fn counted(bytes: usize) -> u32
@@ -158,13 +164,16 @@ fn emit_module<'m>(alloc: Global, m: &'m RModule) -> Result<Drafted<'m>, Memory>
 }
 
 /// The code and the strings of a program module, where the code has at most 32,767 bytes. Its variables and strings have at
-/// most 32,000 words.
+/// most 32,000 words. The code is a translation wherever the module is loaded: with the numbers of loaded modules at the
+/// fixups, which name the module itself.
 pub fn generate(alloc: Global, m: &RModule) -> Result<ModuleCode, GenStop>
     requires sound { IsSound (module_of m.now) }
     requires measured { IsMeasured m.now }
     requires fits { all_words (module_of m.now).variables + length (module_strings (module_of m.now)) ≤ 32000 }
     ensures strings { IfOk result (λ made. made.strings.items ≡ module_strings (module_of m.now)) }
-    ensures translates { IfOk result (λ made. Translates (module_of m.now) (module_strings (module_of m.now)) made.entries made.code) }
+    ensures translates { IfOk result (λ made. (numbers : ℕ → ℕ) → TranslatesAs numbers (module_of m.now) (module_strings (module_of m.now)) made.entries (patched numbers made.code made.fixups)) }
+    ensures rising { IfOk result (λ made. IsStrictlyIncreasing made.fixups) }
+    ensures named { IfOk result (λ made. All (λ p. slice_get made.code p ≡ Some 0) made.fixups) }
     ensures long { IfOk result (λ made. length made.code ≡ spec.code_size (module_of m.now)) }
     ensures short { IfOk result (λ made. spec.code_size (module_of m.now) ≤ 32767) }
     ensures too_long { (bytes : ℕ) → result ≡ Err (GenStop.CodeTooLong bytes) → (32767 < spec.code_size (module_of m.now)) × (bytes ≡ min (spec.code_size (module_of m.now)) 4294967295) }
@@ -178,7 +187,48 @@ pub fn generate(alloc: Global, m: &RModule) -> Result<ModuleCode, GenStop>
     }
     Ok(ModuleCode {
         code: code.settle(alloc)?,
+        fixups: code.fixups(alloc)?,
         entries,
         strings: code.strings(alloc)?,
     })
+}
+
+/// Writes a byte where the code has one.
+#[tactic(auto, using(crate::proofs::Linking::set_past))]
+fn put_byte(code: &mut Vec<u8>, at: usize, byte: u8)
+    ensures { code.new.items ≡ slice_set code.old.items at byte }
+{
+    if at < code.len() {
+        code[at] = byte;
+    }
+}
+
+/// Puts a number at the fixups of a module's code, the number under which the module is loaded. After a refusal the code is as
+/// before.
+pub fn link(alloc: Global, code: &mut Bytes, fixups: &[u16], number: u8) -> Result<(), Memory>
+    ensures ok { OnOk result (code.new ≡ patched (λ n. number) code.old fixups.now) }
+    ensures err { OnErr result (code.new ≡ code.old) }
+{
+    let mut linked = Vec::from_slice(alloc, code.as_slice())?;
+    for place in fixups {
+        put_byte(&mut linked, usize::from(*place), number);
+    }
+    *code = Bytes::of_vec(linked);
+    Ok(())
+}
+
+/// The same of a program module that is loaded alone: its code has its number.
+pub fn generate_alone(alloc: Global, m: &RModule) -> Result<ModuleCode, GenStop>
+    requires sound { IsSound (module_of m.now) }
+    requires measured { IsMeasured m.now }
+    requires fits { all_words (module_of m.now).variables + length (module_strings (module_of m.now)) ≤ 32000 }
+    ensures strings { IfOk result (λ made. made.strings.items ≡ module_strings (module_of m.now)) }
+    ensures translates { IfOk result (λ made. Translates (module_of m.now) (module_strings (module_of m.now)) made.entries made.code) }
+    ensures long { IfOk result (λ made. length made.code ≡ spec.code_size (module_of m.now)) }
+    ensures short { IfOk result (λ made. spec.code_size (module_of m.now) ≤ 32767) }
+    ensures too_long { (bytes : ℕ) → result ≡ Err (GenStop.CodeTooLong bytes) → (32767 < spec.code_size (module_of m.now)) × (bytes ≡ min (spec.code_size (module_of m.now)) 4294967295) }
+{
+    let mut made = generate(alloc, m)?;
+    link(alloc, &mut made.code, made.fixups.as_slice(), ALONE)?;
+    Ok(made)
 }

@@ -4,5 +4,5 @@
 mod code;
 mod stop;
 
-pub use code::{ModuleCode, generate};
+pub use code::{ModuleCode, generate, generate_alone, link};
 pub use stop::GenStop;

@@ -173,8 +173,8 @@ pub expressions::emit_expression-returns-in-Routine : goal.expressions::emit_exp
 expressions::emit_expression-returns-in-Routine t c =
     let r = c.in-Routine in
     let is = ap expression_of r.is ∙ routine_is r.procedure r.field-1 in
-    subst (λ (e : Expression). OnOk c.put-in-Routine.result (Adds (expression_strings e) c.args.code.now c.put-in-Routine.new.self (Value e))) (sym is)
-    (with_ok c.put-in-Routine.result (routine_emitted r.procedure r.field-1 c.routine_word.result _ _ (omega arith) c.routine_word.ensures) c.put-in-Routine.ensures)
+    subst (λ (e : Expression). OnOk c.routine.result (Adds (expression_strings e) c.args.code.now c.routine.new.self (Value e))) (sym is)
+    (with_ok c.routine.result (routine_emitted r.procedure r.field-1 _ _ (omega arith)) c.routine.ensures)
 
 pub calls::emit_value_call-returns : goal.calls::emit_value_call-returns
 calls::emit_value_call-returns t c =

@@ -7,7 +7,7 @@ use Rattle.lil_session.proofs.text_run.run_module.Goals as goal
 pub returns-in-Err : goal.returns-in-Err
 returns-in-Err g c =
     subst (λ s. Carried (coded c.args.name (module_of c.args.m.now)) c.args.steps (g.S.Sink.written c.args.screen.now) (g.S.Sink.faults c.args.screen.now) (g.S.Sink.written c.args.screen.now) (g.S.Sink.faults c.args.screen.now) s) (sym c.not_generated.ensures)
-    (carried_ungenerated c.args.name (module_of c.args.m.now) c.generate.result c.in-Err.stop c.in-Err.is c.generate.ensures.too_long c.args.steps (g.S.Sink.written c.args.screen.now) (g.S.Sink.faults c.args.screen.now))
+    (carried_ungenerated c.args.name (module_of c.args.m.now) c.generate_alone.result c.in-Err.stop c.in-Err.is c.generate_alone.ensures.too_long c.args.steps (g.S.Sink.written c.args.screen.now) (g.S.Sink.faults c.args.screen.now))
 
 pub returns-in-Ok : goal.returns-in-Ok
 returns-in-Ok g c =

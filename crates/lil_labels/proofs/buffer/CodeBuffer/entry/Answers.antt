@@ -6,14 +6,14 @@ use Rattle.lil_labels.proofs.Adding.{noted_emits}
 use Rattle.lil_labels.proofs.buffer.CodeBuffer.entry.Goals as goal
 
 pub invariant_of-self : goal.invariant_of-self
-invariant_of-self c = sound_more _ _ _ _ c.encode_entry.ensures.grows c.self.invariant
+invariant_of-self c = sound_more _ _ _ _ _ c.encode_entry.ensures.grows c.self.invariant
 
 pub invariant_of-self-2 : goal.invariant_of-self-2
-invariant_of-self-2 c = sound_more _ _ _ _ c.encode_entry.ensures.grows c.self.invariant
+invariant_of-self-2 c = sound_more _ _ _ _ _ c.encode_entry.ensures.grows c.self.invariant
 
 pub returns : goal.returns
 returns c =
     with_ok c.note.result
-    (λ notes. noted_emits _ _ _ _ _ _ _ c.self.view_is c.self.invariant.inside (bytes16 c.args.low ++ bytes16 c.args.high) _ c.args.label (Entering c.args.low c.args.high c.args.label) c.in_ok-encode_entry.ensures.bytes notes
+    (λ notes. noted_emits _ _ _ _ _ _ _ _ c.self.view_is c.self.invariant (bytes16 c.args.low ++ bytes16 c.args.high) _ c.args.label (Entering c.args.low c.args.high c.args.label) c.in_ok-encode_entry.ensures.bytes notes
     (λ x has. record { entry = entry_stands x.code _ c.args.low c.args.high (x.word c.args.label) has; behind = refl }))
     c.note.ensures
