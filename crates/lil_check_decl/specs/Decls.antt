@@ -1,13 +1,13 @@
 -- What declarations mean: what is declared behind them, and the tests of their nodes.
-use Rattle.std.specs.Prelude.{ℕ, length, take, drop, true, List, [], ◌∷◌, map, Option, Some, None}
+use Rattle.std.specs.Prelude.{ℕ, length, take, drop, true, List, [], ◌∷◌, map, Option, Some, None, if◌then◌else◌}
 use Rattle.lil_base.specs.declared.fault.FaultKind.TheVariants.{NotBuilt}
 use Rattle.lil_text.specs.declared.tree.{Ident.Ident, Qualident.Qualident}
 use Rattle.lil_language.specs.declared.unit.{Sort.Sort, TypeName.TypeName, Variables.Variables, Heading.Heading, Decl.{Decl, TheOpen.{Decl-F, Block-F}, TheFolds.fold-Decl}}
 use Rattle.lil_language.specs.declared.unit.Decl.TheOpen as d
 use Rattle.lil_types.specs.declared.table.TypeForm.TheVariants as form
-use Rattle.lil_types.specs.Types.{aimed}
+use Rattle.lil_types.specs.Types.{aimed, revealed, is_pointer_type}
 use Rattle.lil_report.specs.Told.{Row, row, after, walk}
-use Rattle.lil_scope.specs.{declared.{thing.Thing.Thing, env.{Env.Env, Wait.Wait}}, Names.{bind, and_name, entered, outside}}
+use Rattle.lil_scope.specs.{declared.{thing.Thing.Thing, env.{Env.Env, Wait.Wait}}, Names.{bind, rebind, awaited_type, and_name, entered, outside}}
 use Rattle.lil_scope.specs.declared.thing.Thing.TheVariants as t
 use Rattle.lil_check_value.specs.Looks.{type_named, not_built}
 use Rattle.lil_check_type.specs.{Made.{Made, with_types, type_node}, Sorts.sort_means}
@@ -22,9 +22,27 @@ abbrev pub form_means : Env → Ident → Option Sort → Made × List Row
 form_means e i (Some x) = sort_means e x
 form_means e i None = not_built true i.place (type_node e i.place (form.Opaque None))
 
+abbrev pub new_type : Ident → Made → Env × List Row
+new_type i m = bind m.0 i (type_thing m.1)
+
+-- an opaque type of the definition, at its declaration in the implementation: where that is a pointer type, it is known from now on
+abbrev pub revealing : Env → ℕ → Option ℕ → Env
+revealing e k (Some n) = if is_pointer_type e.types n then with_types e (revealed e.types k n) else e
+revealing e k None = e
+
+abbrev pub again_type : ℕ → Ident → Made → Env × List Row
+again_type k i m = (revealing (rebind m.0 i (t.Type k)) k m.1, [])
+
+abbrev pub bound_by : Option ℕ → Ident → Made → Env × List Row
+bound_by None i m = new_type i m
+bound_by (Some k) i m = again_type k i m
+
+abbrev pub bound_type : Ident → Made → Env × List Row
+bound_type i m = bound_by (awaited_type m.0 i.name) i m
+
 -- a type, whose name is bound behind it
 abbrev pub type_step : Env → TypeName → Env × List Row
-type_step e x = after (form_means e x.name x.sort) (λ m. bind m.0 x.name (type_thing m.1))
+type_step e x = after (form_means e x.name x.sort) (bound_type x.name)
 
 -- ---- variables, bound behind their type
 abbrev pub variables_step : Env → Variables → Env × List Row

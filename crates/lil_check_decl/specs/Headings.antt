@@ -1,5 +1,5 @@
 -- Variables and parameters, and the headings of procedures.
-use Rattle.std.specs.Prelude.{ℕ, ◌+◌, nat_le, length, List, [], ◌∷◌, ◌++◌, Option, Some, None}
+use Rattle.std.specs.Prelude.{ℕ, ◌+◌, ◌-◌, nat_le, nat_lt, length, List, [], ◌∷◌, ◌++◌, Option, Some, None}
 use Rattle.lil_base.specs.declared.fault.FaultKind.TheVariants.{TooManyProcs}
 use Rattle.lil_text.specs.declared.tree.{Ident.Ident, Qualident.Qualident}
 use Rattle.lil_language.specs.declared.unit.{Section.Section, Heading.Heading}
@@ -7,7 +7,7 @@ use Rattle.lil_types.specs.{Types.Table, declared.table.Parameter.Parameter}
 use Rattle.lil_declared.specs.{Modes.mode_of, declared.declared.Mode.TheVariants.Plain}
 use Rattle.lil_declared.specs.declared.declared.{RProc.RProc, RVar.RVar}
 use Rattle.lil_report.specs.Told.{Row, row, after, walk}
-use Rattle.lil_scope.specs.{declared.{thing.Thing.Thing, env.Env.Env}, Names.{bind, bind_at, begun, with_local, variables_of, level, visible, chain}}
+use Rattle.lil_scope.specs.{declared.{thing.{ExternalProcedure.ExternalProcedure, Thing.Thing}, env.Env.Env}, Names.{bind, bind_at, rebind, awaited_procedure, begun, with_local, variables_of, level, visible, chain}}
 use Rattle.lil_scope.specs.declared.thing.Thing.TheVariants as t
 use Rattle.lil_check_value.specs.Looks.{type_named}
 use Rattle.lil_check_type.specs.{declared.routines.Parameters.Parameters, Made.{Made, form_node}, Records.{is_structure, sort_or, no_parameters, with_parameter, result_means, procedure_form}}
@@ -66,12 +66,31 @@ procedure_at name block o e = record { name = name; block = block; outer = visib
 abbrev pub with_procedure : List ℕ → ℕ → Option ℕ → Env → Env
 with_procedure name block o e = record e { procedures = e.procedures ++ procedure_at name block o e ∷ [] }
 
--- 62 TooManyProcs, at the name of a procedure before which 250 have headings
+-- 62 TooManyProcs, at the name of a procedure before which 250 have headings, or await them in the definition
 unfoldable pub numbered_node : Ident → ℕ → Option ℕ → Env → Env × List Row
-numbered_node i block o e = (with_procedure i.name block o e, row (nat_le 250 (length e.procedures)) i.place TooManyProcs ∷ [])
+numbered_node i block o e = (with_procedure i.name block o e, row (nat_le 250 (length e.procedures + e.awaited)) i.place TooManyProcs ∷ [])
+
+abbrev pub new_means : ℕ → Ident → Made → Env × List Row
+new_means block i m = after (bind m.0 i (procedure_thing block m.1 m.0)) (numbered_node i block m.1)
+
+-- ---- a procedure of the definition, at its heading in the implementation: the name stands for the unit's own procedure now, and
+-- one less is awaited
+abbrev pub one_less : Env → Env
+one_less e = record e { awaited = e.awaited - 1 }
+
+abbrev pub declared_again : ℕ → Ident → Made → Env
+declared_again block i m = with_procedure i.name block m.1 (one_less (rebind m.0 i (procedure_thing block m.1 m.0)))
+
+-- 62 TooManyProcs, where its number in the definition is above 250
+unfoldable pub again_means : ExternalProcedure → ℕ → Ident → Made → Env × List Row
+again_means p block i m = (declared_again block i m, row (nat_lt 250 p.number) i.place TooManyProcs ∷ [])
+
+abbrev pub named_by : Option ExternalProcedure → ℕ → Ident → Made → Env × List Row
+named_by None block i m = new_means block i m
+named_by (Some p) block i m = again_means p block i m
 
 abbrev pub named_means : ℕ → Ident → Made → Env × List Row
-named_means block i m = after (bind m.0 i (procedure_thing block m.1 m.0)) (numbered_node i block m.1)
+named_means block i m = named_by (awaited_procedure m.0 i.name) block i m
 
 -- a heading stands in the block around its procedure, and its name is bound there behind it
 abbrev pub sections_mean : Env → Heading → Headed × List Row

@@ -9,9 +9,9 @@ use lil_check_type::{add_type, sort};
 use lil_check_value::type_named;
 use lil_language::{Decl, Sort, TypeName, Variables};
 use lil_report::Report;
-use lil_scope::{Coming, Env, Thing, Wait, bind, enter, leave};
+use lil_scope::{Coming, Env, Thing, Wait, awaited_type, bind, enter, leave, rebind};
 use lil_text::{Ident, Qualident};
-use lil_types::{TypeForm, TypeId};
+use lil_types::{TypeForm, TypeId, is_pointer_type};
 use std::alloc::Global;
 
 fn type_thing(sort: Option<TypeId>) -> Thing
@@ -43,11 +43,48 @@ fn form(
     }
 }
 
+/// An opaque type is this type, where it is a pointer type.
+fn reveal(env: &mut Env, opaque: TypeId, sort: Option<TypeId>)
+    ensures { env.new ≡ spec.revealing env.old opaque sort }
+{
+    match sort {
+        Some(sort) if is_pointer_type(&env.types, sort) => env.types.reveal(opaque, sort),
+        _ => {}
+    }
+}
+
+/// The name of an opaque type of the definition, behind its form in the implementation.
+fn type_again(env: &mut Env, opaque: TypeId, of: &Ident, sort: Option<TypeId>)
+    ensures { env.new ≡ (spec.again_type opaque of.now (env.old, sort)).0 }
+{
+    rebind(env, of, Thing::Type(opaque));
+    reveal(env, opaque, sort);
+}
+
+/// The name of a type, behind its form.
+fn bind_type(
+    alloc: Global,
+    env: &mut Env,
+    report: &mut Report,
+    of: &Ident,
+    sort: Option<TypeId>,
+) -> Result<(), Memory>
+    ensures { IfOk result (λ o. Said (spec.bound_type of.now (env.old, sort)) report.old env.new report.new) }
+{
+    match awaited_type(env, &of.name) {
+        None => bind(alloc, env, report, of, type_thing(sort)),
+        Some(opaque) => {
+            type_again(env, opaque, of, sort);
+            Ok(())
+        }
+    }
+}
+
 fn type_name(alloc: Global, env: &mut Env, report: &mut Report, of: &TypeName) -> Result<(), Memory>
     ensures { IfOk result (λ o. Said (spec.type_step env.old of.now) report.old env.new report.new) }
 {
     let number = form(alloc, env, report, &of.name, &of.sort)?;
-    bind(alloc, env, report, &of.name, type_thing(number))
+    bind_type(alloc, env, report, &of.name, number)
 }
 
 /// Types, each bound behind its form.

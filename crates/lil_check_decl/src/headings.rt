@@ -1,4 +1,4 @@
-ghost use Rattle.std.specs.Prelude.{◌≡◌, length, IfOk};
+ghost use Rattle.std.specs.Prelude.{◌≡◌, ◌+◌, length, nat_le, IfOk};
 ghost use Rattle.lil_report.specs.Told.{Said, walk};
 ghost use Rattle.lil_scope.specs.Names as names;
 ghost use Rattle.lil_check_type.specs.Records.{no_parameters};
@@ -11,7 +11,10 @@ use lil_check_value::type_named;
 use lil_declared::{Mode, RProc, RVar, mode_of};
 use lil_language::{Heading, Section};
 use lil_report::Report;
-use lil_scope::{Env, Routine, Thing, Variable, bind, bind_at, chain, visible};
+use lil_scope::{
+    Env, ExternalProcedure, Routine, Thing, Variable, awaited_procedure, bind, bind_at, chain,
+    rebind, visible,
+};
 use lil_text::Ident;
 use lil_types::{Parameter, TypeId, TypeTable};
 use std::alloc::Global;
@@ -268,6 +271,13 @@ fn add_procedure(
     })
 }
 
+/// Whether 250 procedures have headings, or await them in the definition.
+fn is_full(env: &Env) -> bool
+    ensures { result ≡ nat_le 250 (length env.now.procedures + env.now.awaited) }
+{
+    env.procedures.len().saturating_add(env.awaited) >= 250
+}
+
 /// A procedure more: that is fault 62, where 250 stand before it.
 #[tactic(auto, unfolding(crate::specs::Headings::numbered_node, lil_report::specs::Told::tell))]
 fn numbered(
@@ -280,8 +290,44 @@ fn numbered(
 ) -> Result<(), Memory>
     ensures { IfOk result (λ o. Said (spec.numbered_node of.now block sort env.old) report.old env.new report.new) }
 {
-    let many = env.procedures.len() >= 250;
+    let many = is_full(env);
     report.note(many, of.place, FaultKind::TooManyProcs);
+    add_procedure(alloc, env, block, sort, of)
+}
+
+/// The name of a procedure that the definition hasn't, behind its heading.
+fn named_new(
+    alloc: Global,
+    env: &mut Env,
+    report: &mut Report,
+    block: usize,
+    of: &Ident,
+    sort: Option<TypeId>,
+) -> Result<(), Memory>
+    ensures { IfOk result (λ o. Said (spec.new_means block of.now (env.old, sort)) report.old env.new report.new) }
+{
+    let thing = procedure_thing(block, sort, env);
+    bind(alloc, env, report, of, thing)?;
+    numbered(alloc, env, report, block, sort, of)
+}
+
+/// The name of a procedure of the definition, behind its heading in the implementation.
+#[tactic(auto, unfolding(crate::specs::Headings::again_means, lil_report::specs::Told::tell))]
+fn named_again(
+    alloc: Global,
+    env: &mut Env,
+    report: &mut Report,
+    awaited: ExternalProcedure,
+    block: usize,
+    of: &Ident,
+    sort: Option<TypeId>,
+) -> Result<(), Memory>
+    ensures { IfOk result (λ o. Said (spec.again_means awaited block of.now (env.old, sort)) report.old env.new report.new) }
+{
+    let thing = procedure_thing(block, sort, env);
+    rebind(env, of, thing);
+    env.awaited = env.awaited.saturating_sub(1);
+    report.note(awaited.number > 250, of.place, FaultKind::TooManyProcs);
     add_procedure(alloc, env, block, sort, of)
 }
 
@@ -296,9 +342,10 @@ fn named(
 ) -> Result<(), Memory>
     ensures { IfOk result (λ o. Said (spec.named_means block of.now (env.old, sort)) report.old env.new report.new) }
 {
-    let thing = procedure_thing(block, sort, env);
-    bind(alloc, env, report, of, thing)?;
-    numbered(alloc, env, report, block, sort, of)
+    match awaited_procedure(env, &of.name) {
+        None => named_new(alloc, env, report, block, of, sort),
+        Some(awaited) => named_again(alloc, env, report, awaited, block, of, sort),
+    }
 }
 
 /// The heading of a procedure.

@@ -12,9 +12,7 @@ use lil_base::{FaultKind, Items, Memory, SourceFault, beside};
 use lil_check_decl::declarations;
 use lil_check_stmt::{Stated, bodies};
 use lil_format::Wanted;
-use lil_interfaces::{
-    Enumerations, Imported, Interfaces, Origins, Sources, exports, imports, start,
-};
+use lil_interfaces::{Imported, Interfaces, begin, exports, imports};
 use lil_language::Unit;
 use lil_report::{Fault, Report, worse};
 use lil_scope::{Env, Withs};
@@ -27,20 +25,6 @@ pub fn told(fault: Fault) -> SourceFault
     ensures { result ≡ spec.told fault }
 {
     SourceFault::at(fault.kind, fault.place)
-}
-
-/// Nothing is imported yet.
-fn nothing_imported(alloc: Global) -> Result<Imported, Memory>
-    ensures { IfOk result (λ s. s ≡ nothing_imported) }
-{
-    Ok(Imported {
-        env: start(alloc)?,
-        modules: Items::new(alloc),
-        taken: Sources::new(alloc),
-        rests: Items::new(alloc),
-        origins: Origins::new(alloc),
-        enumerations: Enumerations::new(alloc),
-    })
 }
 
 /// What a unit declares and imports: the modules on which it rests, each once, and how many names of the unit's block are
@@ -84,7 +68,7 @@ fn declare_all(
     ensures rests { IfOk result (λ d. d.rests ≡ (spec.brought interfaces.now u.now).rests) }
     ensures imported { IfOk result (λ d. d.imported ≡ spec.imported_names interfaces.now u.now) }
 {
-    let mut so_far = nothing_imported(alloc)?;
+    let mut so_far = begin(alloc, None)?;
     let outcome = declare(alloc, u, interfaces, &mut so_far, report);
     let (so_far, imported) = beside(so_far, outcome)?;
     Ok(Declared {

@@ -2,4 +2,5 @@ mod Blocks
 mod Constants
 mod Filling
 mod ImportForms
+mod Owning
 mod SourceNames

@@ -88,4 +88,5 @@ start = record {
   coming = [];
   withs = [];
   procedure = None;
+  awaited = 0;
 }

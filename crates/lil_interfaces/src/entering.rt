@@ -1,6 +1,6 @@
 //! The modules on which a unit rests, and the types of an interface by where they belong.
 
-ghost use Rattle.std.specs.Prelude.{◌≡◌, ◌+◌, IfOk, map, slice_get};
+ghost use Rattle.std.specs.Prelude.{◌≡◌, ◌+◌, ◌∷◌, IfOk, map, slice_get};
 ghost use Rattle.std.specs.Option.{option_copied};
 ghost use Rattle.lil_types.specs.Adding.{next};
 ghost use Rattle.lil_interfaces.specs.Entering as spec;
@@ -66,7 +66,7 @@ pub fn with_itself(alloc: Global, of: &Interface) -> Result<Items<Wanted>, Memor
     Ok(all)
 }
 
-fn add_all(alloc: Global, rests: &mut Items<Wanted>, of: &[Wanted]) -> Result<(), Memory>
+pub(crate) fn add_all(alloc: Global, rests: &mut Items<Wanted>, of: &[Wanted]) -> Result<(), Memory>
     ensures { IfOk result (λ u. rests.new ≡ spec.and_rests rests.old of.now) }
 {
     for one in of {
@@ -98,6 +98,23 @@ fn place_of(rests: &[Wanted], name: &Name) -> usize
     place
 }
 
+/// A place, and behind it those of modules.
+pub(crate) fn places_from(
+    alloc: Global,
+    first: usize,
+    rests: &[Wanted],
+    of: &[Wanted],
+) -> Result<Items<usize>, Memory>
+    ensures { IfOk result (λ ps. ps ≡ first ∷ spec.places rests.now of.now) }
+{
+    let mut places = Items::new(alloc);
+    places.push(first)?;
+    for one in of {
+        places.push(place_of(rests, &one.name))?;
+    }
+    Ok(places)
+}
+
 /// The places of the module of an interface and of those on which it rests.
 pub(crate) fn places_of(
     alloc: Global,
@@ -106,12 +123,8 @@ pub(crate) fn places_of(
 ) -> Result<Items<usize>, Memory>
     ensures { IfOk result (λ ps. ps ≡ spec.places rests.now (spec.with_itself of.now)) }
 {
-    let mut places = Items::new(alloc);
-    places.push(place_of(rests, &of.name))?;
-    for one in of.rests.as_slice() {
-        places.push(place_of(rests, &one.name))?;
-    }
-    Ok(places)
+    let own = place_of(rests, &of.name);
+    places_from(alloc, own, rests, of.rests.as_slice())
 }
 
 fn number_at(number: Option<&usize>) -> usize

@@ -47,7 +47,7 @@ fn block_of(modules: &[Entered], name: &Name) -> Option<usize>
 }
 
 /// The texts of constants behind those that stand there.
-fn add_texts(to: &mut Items<Shared<Text>>, of: &[Shared<Text>]) -> Result<(), Memory>
+pub(crate) fn add_texts(to: &mut Items<Shared<Text>>, of: &[Shared<Text>]) -> Result<(), Memory>
     ensures { IfOk result (λ u. to.new ≡ to.old ++ of.now) }
 {
     for one in of {

@@ -132,7 +132,7 @@ fn moved_text(texts: usize, number: usize) -> usize
 
 /// A thing of an interface, where so many texts stood before. What is external belongs to the module whose names stand in this
 /// block.
-fn moved_thing(numbers: &[TypeId], texts: usize, block: usize, of: Thing) -> Thing
+pub(crate) fn moved_thing(numbers: &[TypeId], texts: usize, block: usize, of: Thing) -> Thing
     ensures { result ≡ spec.moved_thing numbers.now texts block of }
 {
     match of {

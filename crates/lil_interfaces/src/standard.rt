@@ -125,5 +125,6 @@ pub fn start(alloc: Global) -> Result<Env, Memory>
         coming: Coming::new(alloc),
         withs: Withs::new(alloc),
         procedure: None,
+        awaited: 0,
     })
 }

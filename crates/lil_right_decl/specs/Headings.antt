@@ -1,7 +1,7 @@
 -- Headings in which no test finds a fault: a procedure with its parameters, and what is declared inside of it.
 use Rattle.std.proofs.Common.{◌≡◌, ℕ, ◌+◌, ◌<◌, Bool, true, false, List, [], ◌∷◌, ◌++◌, length, slice_get, Option, Some, None, IfSome, if◌then◌else◌, refl, sym, ap, subst, ◌∙◌, inl, ⊎_elim, arith, true≢false, length-append}
 use Rattle.std.specs.Prelude.{is_none}
-use Rattle.std.proofs.lemmas.{Bool.Decides.nat_tests, List.length_push, Option.slice_get_within}
+use Rattle.std.proofs.lemmas.{Bool.Decides.nat_tests, List.length_push, Option.{none-some, slice_get_within}}
 use Rattle.lil_text.specs.declared.tree.{Qualident.Qualident}
 use Rattle.lil_language.specs.declared.{tree.Stmt.Stmt, unit.{Heading.Heading}}
 use Rattle.lil_types.specs.{Types.{Table, entry}, Adding.{next, own, added, added_number}, declared.table.{Facts.Facts, Parameter.Parameter, TypeForm.TypeForm}}
@@ -11,16 +11,16 @@ use Rattle.lil_report.specs.Told.{Row, after, walk}
 use Rattle.lil_kinds.specs.Forms.{parameters, result}
 use Rattle.lil_shapes.specs.{ListLaws.AllFine, Pointers.lies_at, ShapeSound.{at_end, earlier}}
 use Rattle.lil_forms.specs.Scopes.{fine_more}
-use Rattle.lil_scope.specs.{Names.{Names, look_in, bound_at, bind_at, locals_in, inside, entered, outside}, declared.{env.Env.Env, thing.{Entry.Entry, Thing.Thing, Variable.Variable}}}
+use Rattle.lil_scope.specs.{Names.{Names, look_in, bound_at, bind_at, is_in_no_text, procedure_of, procedure_awaited, thing_of, entry_here, awaited_procedure, locals_in, inside, entered, outside}, declared.{env.Env.Env, thing.{Entry.Entry, ExternalProcedure.ExternalProcedure, Thing.Thing, Variable.Variable}}}
 use Rattle.lil_scope.specs.declared.thing.Thing.TheVariants as thing
 use Rattle.lil_scope.specs.Names as names
 use Rattle.lil_check_value.specs.{Looks.{type_named}}
 use Rattle.lil_check_type.specs.{declared.{named.NamedType.{NamedType, TheVariants.{Absent, Given, Faulty}}, routines.Parameters.Parameters}, Made.{Made, type_node, form_node}, Records.{no_parameters, result_node, result_means, procedure_form}}
-use Rattle.lil_check_decl.specs.{Decls.{Means, procedure_means}, Headings.{Headed, section_step, home_at, procedure_thing, with_procedure, numbered_node, named_means, heading_means}}
+use Rattle.lil_check_decl.specs.{Decls.{Means, procedure_means}, Headings.{Headed, section_step, home_at, procedure_thing, with_procedure, numbered_node, new_means, again_means, named_by, named_means, heading_means}}
 use Rattle.lil_check_stmt.specs.Texts.{Texts}
-use Rattle.lil_right_type.specs.{Right.{Clear, Right, after_right, clear_left, clear_right}, Types.PassedTold, Found.{ParameterTold, ResultTold, HeadingTold, AreHeaded}, Homes.{IsParameter, Longer, last_locals, homed_procedure, stands_stays, stands_inside}}
+use Rattle.lil_right_type.specs.{Right.{Clear, Right, after_right, clear_left, clear_right}, Types.PassedTold, Found.{ParameterTold, ResultTold, HeadingTold, ThingTold, AreHeaded}, Homes.{IsParameter, Longer, last_locals, homed_procedure, stands_stays, stands_inside}}
 use Rattle.lil_right_type.specs.Homes as homes
-use Rattle.lil_right_value.specs.Names.{Lies, Told, look_is, bound_at_is}
+use Rattle.lil_right_value.specs.Names.{Lies, Told, look_is, member_is, bound_at_is}
 use Rattle.lil_right_sort.specs.{Growth.{all_then, fine_at, Few, few_before, added_grown, grown_kept, added_entry, entry_below, entry_shape, parameter_stays, result_stays, shape_parameters, last_there, IsIn, AllLie, AllHeaded, HasHeading, Declared, declared_added}, Routines.{IsResult, result_right}, Simple.{Begun, walk_keeps}}
 use Rattle.lil_right_decl.specs.Constants.{Behind}
 use Rattle.lil_right_decl.specs.Parameters.{local_same, paired_lie, paired_headed, k, with_parts, IsNamed, ArePassed, IsHeading, none_yet, type_there, section_right}
@@ -76,6 +76,31 @@ both_right P Q m k f h g clear =
     clear_both : (rs ss : List Row) → Clear rs → Clear ss → Clear (rs ++ ss)
     clear_both [] ss h j = j
     clear_both (r ∷ rs) ss h j = (h.0, clear_both rs ss h.1 j)
+
+-- ---- names that stand for no procedure of another module
+abbrev IsOurs : Thing → Type 0
+IsOurs (thing.ExternalProcedure x) = ⊥
+IsOurs _ = Unit {0}
+
+abbrev AreOurs : Names → Type 0
+AreOurs b = AllFine (λ (x : List ℕ × Entry). IsOurs x.1.thing) b
+
+told_ours : (t : Table) (texts : List (List ℕ)) (x : Thing) → ThingTold t texts x → IsOurs x
+told_ours t texts (thing.ExternalProcedure x) h = h
+told_ours t texts _ h = tt
+
+named_ours : (e : Env) (own : List RVar) (x : Thing) → IsNamed e own x → IsOurs x
+named_ours e own (thing.Variable v) h = tt
+named_ours e own _ h = absurd h
+
+none_awaits : (o : Option Entry) → IfSome (thing_of o) IsOurs → procedure_awaited o ≡ None
+none_awaits None h = refl
+none_awaits (Some e) h = by (is_in_no_text e.place) e.thing h
+  where
+    by : (c : Bool) (x : Thing) → IsOurs x → (if c then procedure_of x else None) ≡ None
+    by false x h = refl
+    by true (thing.ExternalProcedure p) h = absurd h
+    by true _ h = refl
 
 -- ---- the heading
 is_there : (o : Option ℕ) → is_none o ≡ false → (n : ℕ) × (o ≡ Some n)
@@ -190,17 +215,50 @@ module _ (e : Env) (begun : Begun e) (h : Heading) where
     unfolding type_node
     typed_right r clear = let n = is_there (added_number e.types (typed ps r)) clear.0 in record { number = n.0; is = λ i. (record f { types = u ps r }, n.1 i); given = n.1 }
 
-    named_right : (r : Option ℕ) → (Few e.types → ResultTold e.types r) → (m : Made) → IsTyped r m → Right (IsHeaded e) (named_means (k e) h.name m)
-    unfolding after bind_at numbered_node
-    named_right r returns m made = subst (λ (m : Made). Right (IsHeaded e) (named_means (k e) h.name m)) (sym made.is) (λ clear.
-        let room : length e.procedures < 250 = grind (arith, nat_tests, clear.1.0) in
-        let before = few_before e.types (u ps r) (added_grown e.types (own e.types) (typed ps r)) in
-        record { its = _; procedures = refl; procedure = refl; few = before; told = λ few. headed_told ps r bs ls made.number made.given room few (told (before few)) (returns (before few)) })
+    -- where all that names stand for is told no procedure awaits its heading
+    none_here : Few e.types → awaited_procedure f h.name.name ≡ None
+    unfolding awaited_procedure
+    none_here few =
+        let p = told few in
+        let before : AllFine AreOurs e.scopes.blocks = all_then _ _ (λ b. all_then _ _ (λ (x : List ℕ × Entry). told_ours e.types e.texts x.1.thing) b) e.scopes.blocks (begun few).told.names in
+        let its : AreOurs p.block = all_then _ _ (λ (x : List ℕ × Entry). named_ours e p.own x.1.thing) p.block p.named in
+        let all : AllFine AreOurs bs = subst (AllFine AreOurs) (sym p.blocks_are) (fine_more AreOurs e.scopes.blocks p.block before its) in
+        none_awaits (entry_here f h.name.name) (member_is IsOurs f.scopes f.scopes.inner h.name.name all)
+
+    module _ (r : Option ℕ) (returns : Few e.types → ResultTold e.types r) where
+      typed_few : Few (u ps r) → Few e.types
+      typed_few = few_before e.types (u ps r) (added_grown e.types (own e.types) (typed ps r))
+
+      new_right : (m : Made) → IsTyped r m → Right (IsHeaded e) (new_means (k e) h.name m)
+      unfolding after bind_at numbered_node
+      new_right m made = subst (λ (m : Made). Right (IsHeaded e) (new_means (k e) h.name m)) (sym made.is) (λ clear.
+          let room : length e.procedures < 250 = grind (arith, nat_tests, clear.1.0) in
+          record { its = _; procedures = refl; procedure = refl; few = typed_few; told = λ few. headed_told ps r bs ls made.number made.given room few (told (typed_few few)) (returns (typed_few few)) })
+
+      again_right : (p : ExternalProcedure) → awaited_procedure f h.name.name ≡ Some p → (m : Made) → IsTyped r m → Right (IsHeaded e) (again_means p (k e) h.name m)
+      unfolding again_means
+      again_right p is m made = subst (λ (m : Made). Right (IsHeaded e) (again_means p (k e) h.name m)) (sym made.is)
+          (λ clear. record { its = _; procedures = refl; procedure = refl; few = typed_few; told = λ few. absurd (none-some p (sym (none_here (typed_few few)) ∙ is)) })
+
+      either_right : (m : Made) → IsTyped r m → (o : Option ExternalProcedure) → awaited_procedure f h.name.name ≡ o → Right (IsHeaded e) (named_by o (k e) h.name m)
+      either_right m made None is = new_right m made
+      either_right m made (Some p) is = again_right p is m made
+
+      named_right : (m : Made) → IsTyped r m → Right (IsHeaded e) (named_means (k e) h.name m)
+      unfolding awaited_procedure
+      named_right m made =
+          let same : awaited_procedure m.0 h.name.name ≡ awaited_procedure f h.name.name = ap (λ (m : Made). awaited_procedure m.0 h.name.name) made.is in
+          subst (λ (o : Option ExternalProcedure). Right (IsHeaded e) (named_by o (k e) h.name m)) (sym same) (either_right m made (awaited_procedure f h.name.name) refl)
 
     -- without a type where a parameter or the result has a fault
-    broken_right : (Few e.types → ⊥) → Right (IsHeaded e) (named_means (k e) h.name (f, None))
-    unfolding after bind_at numbered_node
-    broken_right wrong clear = record { its = _; procedures = refl; procedure = refl; few = λ few. few; told = λ few. absurd (wrong few) }
+    module _ (wrong : Few e.types → ⊥) where
+      broken_by : (o : Option ExternalProcedure) → Right (IsHeaded e) (named_by o (k e) h.name (f, None))
+      unfolding after bind_at numbered_node again_means
+      broken_by None clear = record { its = _; procedures = refl; procedure = refl; few = λ few. few; told = λ few. absurd (wrong few) }
+      broken_by (Some p) clear = record { its = _; procedures = refl; procedure = refl; few = λ few. few; told = λ few. absurd (wrong few) }
+
+      broken_right : Right (IsHeaded e) (named_means (k e) h.name (f, None))
+      broken_right = broken_by (awaited_procedure f h.name.name)
 
     typed_so : (r : Option ℕ) → (Few e.types → ResultTold e.types r) → (c : Bool) → ps.right ≡ c → Right (IsHeaded e) (after (form_node f h.place (if c then Some (typed ps r) else None)) (named_means (k e) h.name))
     unfolding after

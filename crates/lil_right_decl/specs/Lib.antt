@@ -5,6 +5,7 @@ pub mod Headings
 pub mod Imported
 pub mod Origins
 pub mod Parameters
+pub mod Revealed
 pub mod Room
 pub mod Shown
 pub mod Told

@@ -1,21 +1,24 @@
 -- What a text imports and declares without a fault is told.
-use Rattle.std.proofs.Common.{◌≡◌, ℕ, List, [], ◌∷◌, length, map, take, drop, Option, Some, None, refl, sym, ap, subst, ◌∙◌, arith, true≢false}
+use Rattle.std.proofs.Common.{◌≡◌, ℕ, Bool, true, false, if◌then◌else◌, List, [], ◌∷◌, length, slice_get, map, take, drop, Option, Some, None, refl, sym, ap, subst, ◌∙◌, arith, true≢false}
 use Rattle.lil_text.specs.declared.tree.Ident.{Ident}
 use Rattle.lil_language.specs.declared.unit.{Import.Import, Block.{Block, roll-Block}, Decl.{Decl, TheFolds.{map-Decl, map-Block, fold-Block, fold-roll-Decl, fold-roll-Block, ind-Decl}, TheOpen.{Decl-F, Block-F}, TheViews.roll-Decl}, Sort.Sort, TypeName.TypeName, Variables.Variables}
 use Rattle.lil_language.specs.declared.unit.Decl.TheOpen as d
 use Rattle.lil_language.specs.declared.unit.Decl.TheVariants as v
 use Rattle.lil_report.specs.{Told.{Row, after, walk}, Laws.walk_map}
-use Rattle.lil_scope.specs.{Names.{bind}, declared.env.{Env.Env, Wait.Wait}}
+use Rattle.lil_types.specs.Types.{Table, is_untold_type, is_pointer_type, revealed}
+use Rattle.lil_declared.specs.declared.declared.RProc.{RProc}
+use Rattle.lil_scope.specs.{Names.{bind, rebind, type_awaited, entry_here, awaited_type}, declared.env.{Env.Env, Wait.Wait}}
+use Rattle.lil_scope.specs.declared.thing.Thing.TheVariants as thing
 use Rattle.lil_shapes.specs.ListLaws.{AllFine}
 use Rattle.lil_check_value.specs.Looks.{not_built, type_named}
-use Rattle.lil_check_type.specs.{Made.Made, Sorts.sort_means}
-use Rattle.lil_check_decl.specs.{Constants.constant_step, Decls.{type_thing, form_means, type_step, variables_step, bare, pointing, wait_step, settled, block_end, Means, Sense, expecting, decl_layer, block_layer, decl_sense, decl_step, procedure_means, decls_inside, decls_mean}, Headings.{variable_step, here, heading_means}}
+use Rattle.lil_check_type.specs.{Made.{Made, with_types}, Sorts.sort_means}
+use Rattle.lil_check_decl.specs.{Constants.constant_step, Decls.{type_thing, form_means, revealing, bound_by, bound_type, type_step, variables_step, bare, pointing, wait_step, settled, block_end, Means, Sense, expecting, decl_layer, block_layer, decl_sense, decl_step, procedure_means, decls_inside, decls_mean}, Headings.{variable_step, here, heading_means}}
 use Rattle.lil_check_stmt.specs.Texts.{Texts, texts_in, texts, no_constant, no_type, no_variables, with_block}
 use Rattle.lil_interfaces.specs.{Interfaces.residents, Sources.Sources, Imports.{imports_mean, nothing_imported, export_step, exports_mean}}
 use Rattle.lil_right_type.specs.Right.{Right, IsAny, after_right}
-use Rattle.lil_right_sort.specs.{Growth.{Few, IsThing, Declared, declared_waits}, Simple.{Begun, later_same, SortTold, sort_later, walk_keeps, named_right}, Sorts.sort_right}
+use Rattle.lil_right_sort.specs.{Growth.{Few, few_before, IsThing, Declared, declared_waits}, Simple.{Begun, later_same, SortTold, sort_later, walk_keeps, named_right}, Sorts.sort_right}
 use Rattle.lil_right_value.specs.Names.{Lies}
-use Rattle.lil_right_decl.specs.{Aimed.{few_aimed, aimed_declared}, Constants.{Behind, IsMeant, bind_behind, constant_behind}, Headings.{IsText, After, after_more, after_same, after_none, procedure_right}, Imported.{IsImported, imports_told}, Variables.{HasHome, variable_behind}}
+use Rattle.lil_right_decl.specs.{Aimed.{few_aimed, aimed_declared}, Revealed.{few_revealed, never_untold, untold_awaited}, Constants.{Behind, IsMeant, bind_behind, constant_behind}, Headings.{IsText, After, after_more, after_same, after_none, procedure_right}, Imported.{IsImported, imports_told}, Variables.{HasHome, variable_behind}}
 
 -- ---- the end of a block
 wait_told : (ts : Texts) (e f : Env) (w : Wait) → After e ts f → Right (After e ts) (wait_step f w)
@@ -77,8 +80,36 @@ unfolding not_built
 form_made e f i (Some x) b clear = sort_made e f x b clear
 form_made e f i None b clear = absurd (true≢false clear.0)
 
-type_behind : (e f : Env) (x : TypeName) → Behind e f → Right (Behind e) (type_step f x)
-type_behind e f x b = after_right (SortTold e) (Behind e) (form_means f x.name x.sort) (λ m. bind m.0 x.name (type_thing m.1)) (form_made e f x.name x.sort b) (λ m made. bind_behind e m.0 x.name (type_thing m.1) (type_meant e m made))
+-- an opaque type of the definition, which no table that is told has
+module _ (f : Env) (m : Made) (i : Ident) (k : ℕ) (untold : is_untold_type m.0.types k ≡ true) (made : SortTold f m) where
+  abbrev again : Env
+  again = rebind m.0 i (thing.Type k)
+
+  behind_again : (u : Table) → (Few u → Few m.0.types) → After f [] (with_types again u)
+  behind_again u few = record {
+    longer = λ n q is. ap (λ (ps : List RProc). slice_get ps n) made.0.1.0 ∙ is;
+    count = omega (arith, ap length made.0.1.0);
+    whole = tt;
+    procedure = made.0.1.1;
+    few = λ now. few_before f.types m.0.types made.0.0 (few now);
+    told = λ now. absurd (never_untold m.0.types (made.1 (few now)).0.told.types k untold);
+  }
+
+  again_by : (n : ℕ) (c : Bool) → After f [] (if c then with_types again (revealed m.0.types k n) else again)
+  again_by n true = behind_again (revealed m.0.types k n) (few_revealed m.0.types k n)
+  again_by n false = behind_again m.0.types (λ few. few)
+
+  again_after : (o : Option ℕ) → After f [] (revealing again k o)
+  again_after None = behind_again m.0.types (λ few. few)
+  again_after (Some n) = again_by n (is_pointer_type m.0.types n)
+
+bound_after : (f : Env) (m : Made) (i : Ident) → SortTold f m → (o : Option ℕ) → type_awaited m.0.types (entry_here m.0 i.name) ≡ o → Right (After f []) (bound_by o i m)
+bound_after f m i made None is clear = after_none f (bind m.0 i (type_thing m.1)).0 (bind_behind f m.0 i (type_thing m.1) (type_meant f m made) clear)
+bound_after f m i made (Some k) is clear = again_after f m i k (untold_awaited m.0.types (entry_here m.0 i.name) k is) made m.1
+
+type_after : (f : Env) (x : TypeName) → Begun f → Right (After f []) (type_step f x)
+unfolding awaited_type
+type_after f x begun = after_right (SortTold f) (After f []) (form_means f x.name x.sort) (bound_type x.name) (form_made f f x.name x.sort (later_same f, begun)) (λ m made. bound_after f m x.name made (awaited_type m.0 x.name.name) refl)
 
 -- ---- variables
 variables_behind : (e f : Env) (x : Variables) → Behind e f → Right (Behind e) (variables_step f x)
@@ -130,10 +161,13 @@ plain step keeps xs ts none f begun clear =
     let behind = walk_keeps (Behind f) step (λ g x. keeps f g x) f xs (later_same f, begun) clear in
     subst (λ (ts : Texts). After f ts (walk step f xs).0) (sym none) (after_none f (walk step f xs).0 behind)
 
+types_after : (f : Env) → Begun f → (xs : List TypeName) → Right (After f []) (walk type_step f xs)
+types_after f begun xs = walk_keeps (After f []) type_step (λ g x h clear. after_more f g _ [] [] h (type_after g x h.told clear)) f xs (after_same f begun)
+
 decl_layer_right : (y : Decl-F DeclTree BlockTree) → Declares (decl_layer (map-Decl Decl Block Sense Means decl_sense block_means (bare_decl y))).means (texts_in (roll-Decl (bare_decl y)))
 unfolding not_built
 decl_layer_right (d.ConstIs p xs) f begun = plain constant_step (λ e f c. constant_behind e f c) xs _ (ap texts_in (v.rolls-ConstIs p xs) ∙ no_constant p xs) f begun
-decl_layer_right (d.TypeIs p xs) f begun = plain type_step (λ e f x. type_behind e f x) xs _ (ap texts_in (v.rolls-TypeIs p xs) ∙ no_type p xs) f begun
+decl_layer_right (d.TypeIs p xs) f begun = λ clear. subst (λ (ts : Texts). After f ts (walk type_step f xs).0) (sym (ap texts_in (v.rolls-TypeIs p xs) ∙ no_type p xs)) (types_after f begun xs clear)
 decl_layer_right (d.VarsAre p xs) f begun = plain variables_step (λ e f x. variables_behind e f x) xs _ (ap texts_in (v.rolls-VarsAre p xs) ∙ no_variables p xs) f begun
 decl_layer_right (d.ProcIs h None) f begun = after_right IsAny (After f _) (heading_means f h) _ (λ clear. tt) (λ g any clear. absurd (true≢false clear.0))
 decl_layer_right (d.ProcIs h (Some b)) f begun =

@@ -203,7 +203,8 @@ abbrev pub IsSigned : Table → ℕ → Option (List Parameter) → Type 0
 IsSigned types s None = Unit {0}
 IsSigned types s (Some ps) = (parameters types s ≡ ps) × (result types s ≡ None)
 
--- what a name stands for is told, by the types and the texts of constants
+-- what a name stands for is told, by the types and the texts of constants. In a program that runs none stands for a procedure of a
+-- module that isn't resident
 abbrev pub ThingTold : Table → List (List ℕ) → Thing → Type 0
 ThingTold types texts (t.Constant kind) = KindTold types kind × IsBare kind
 ThingTold types texts (t.Named n c) = (c.first ≤ 255) × ((cs : List ℕ) × (slice_get texts n ≡ Some cs) × TextTold c cs)
@@ -212,7 +213,7 @@ ThingTold types texts (t.Variable v) = lies_at types v.sort ≡ true
 ThingTold types texts (t.Type s) = built (t.Type s) ≡ true → lies_at types s ≡ true
 ThingTold types texts (t.Procedure x) = HeadingTold types x.sort
 ThingTold types texts (t.ExternalVariable v) = Unit {0}
-ThingTold types texts (t.ExternalProcedure x) = Unit {0}
+ThingTold types texts (t.ExternalProcedure x) = ⊥
 ThingTold types texts (t.Resident x s) = IsSigned types s (signature x)
 ThingTold types texts (t.Standard x) = Unit {0}
 ThingTold types texts (t.Module b) = Unit {0}

@@ -1,9 +1,9 @@
 -- A block, and the names of its types, as an indexmap has them.
-use Rattle.std.proofs.Common.{◌≡◌, ℕ, Bool, true, false, not, ◌||◌, cond, if◌then◌else◌, List, [], ◌∷◌, ◌++◌, map, Option, Some, None, is_some, is_none, refl, ap, ◌∙◌, nat_eq}
+use Rattle.std.proofs.Common.{arith, ◌≡◌, ℕ, suc, ◌+◌, Bool, true, false, not, ◌||◌, ◌&&◌, cond, if◌then◌else◌, List, [], ◌∷◌, ◌++◌, length, map, position, Option, Some, None, is_some, is_none, refl, ap, ◌∙◌, nat_eq, nat_lt}
 use Rattle.std.proofs.lemmas.{List.{map-append}, Bool.{and_parts, and_from}}
-use Rattle.indexmap.specs.{IndexMap.insert_entry, IndexSet.insert_key}
-use Rattle.std.specs.{Cmp.Lexicographic.pointwise, List.list_any, Map.lookup, declared.{vec.Vec.Vec, alloc.Global.Global}}
-use Rattle.lil_scope.specs.{declared.thing.Entry.Entry, Names.{entry_in, place_of, place_in, same, is_new, bound, is_among, and_name, are_names}}
+use Rattle.indexmap.specs.{IndexMap.{insert_entry, set_value_at}, IndexSet.insert_key}
+use Rattle.std.specs.{Cmp.Lexicographic.pointwise, List.{list_any, position_or_len}, Map.{lookup, keys_of}, declared.{vec.Vec.Vec, alloc.Global.Global}}
+use Rattle.lil_scope.specs.{declared.thing.Entry.Entry, Names.{entry_in, place_of, place_in, same, is_new, bound, rebound, is_among, and_name, are_names}}
 use Rattle.lil_base.specs.Names.{is_name}
 
 pub look_map : (n : List ℕ) (es : List (Vec ℕ Global × Entry)) → lookup (λ k. pointwise nat_eq n k.items) es ≡ entry_in (map (λ p. (p.0.items, p.1)) es) n
@@ -78,3 +78,52 @@ pub names_kept : (k : Vec ℕ Global) (t : Entry) (es : List (Vec ℕ Global × 
     → are_names (map see es) ≡ true → are_names (map see (insert_entry (λ a b. pointwise nat_eq a.items b.items) es k t)) ≡ true
 names_kept k t es new name all =
     ap are_names (insert_map k t es new ∙ bound_new (map see es) k.items t new) ∙ names_more (map see es) k.items t all name
+
+-- ---- names that stand for another thing
+-- in an index, by the place of the name; behind all of them nothing changes
+pub rebound_first : (n : List ℕ) (x : Entry) (es : List (Vec ℕ Global × Entry))
+    → map see (set_value_at es (position_or_len (λ k. pointwise nat_eq n k.items) (keys_of es)) x) ≡ rebound (map see es) n x
+rebound_first n x [] = refl
+rebound_first n x (e ∷ es) = by (same n e.0.items) (rebound_first n x es)
+  where
+    behind : ℕ
+    behind = position_or_len (λ k. pointwise nat_eq n k.items) (keys_of es)
+
+    by : (b : Bool) → map see (set_value_at es behind x) ≡ rebound (map see es) n x
+        → map see (set_value_at (e ∷ es) (cond (not b) (1 + behind) 0) x) ≡ cond b ((e.0.items, x) ∷ map see es) (see e ∷ rebound (map see es) n x)
+    by true rest = refl
+    by false rest =
+        let next : 1 + behind ≡ suc behind = omega arith in
+        ap (λ i. map see (set_value_at (e ∷ es) i x)) next ∙ ap (λ z. see e ∷ z) rest
+
+pub rebound_map : (n : List ℕ) (x : Entry) (es : List (Vec ℕ Global × Entry)) (i : ℕ) → Some i ≡ position (λ k. pointwise nat_eq n k.items) (keys_of es)
+    → map see (set_value_at es i x) ≡ rebound (map see es) n x
+rebound_map n x es i h = ap (λ k. map see (set_value_at es k x)) (place (nat_lt first (length (keys_of es))) h) ∙ rebound_first n x es
+  where
+    first : ℕ
+    first = position_or_len (λ k. pointwise nat_eq n k.items) (keys_of es)
+
+    place : (c : Bool) → Some i ≡ cond c (Some first) None → i ≡ first
+    place true is = cc
+    place false is = absurd (cc)
+
+-- one that doesn't stand there changes nothing
+pub rebound_none : (b : List (List ℕ × Entry)) (n : List ℕ) (x : Entry) → entry_in b n ≡ None → b ≡ rebound b n x
+rebound_none [] n x h = refl
+rebound_none (e ∷ es) n x h = by (same n e.0) h (rebound_none es n x)
+  where
+    by : (c : Bool) → cond c (Some e.1) (entry_in es n) ≡ None → (entry_in es n ≡ None → es ≡ rebound es n x) → e ∷ es ≡ cond c ((e.0, x) ∷ es) (e ∷ rebound es n x)
+    by true is rest = absurd (cc)
+    by false is rest = ap (λ z. e ∷ z) (rest is)
+
+pub names_rebound : (b : List (List ℕ × Entry)) (n : List ℕ) (x : Entry) → are_names (rebound b n x) ≡ are_names b
+names_rebound [] n x = refl
+names_rebound (e ∷ es) n x = by (same n e.0) (names_rebound es n x)
+  where
+    by : (c : Bool) → are_names (rebound es n x) ≡ are_names es → are_names (if c then (e.0, x) ∷ es else e ∷ rebound es n x) ≡ are_names (e ∷ es)
+    by true rest = refl
+    by false rest = ap (λ c. is_name e.0 && c) rest
+
+pub none_as : {A B : Type 0} (o : Option A) (p : Option B) → o ≡ None → is_some o ≡ is_some p → p ≡ None
+none_as o None none is = refl
+none_as o (Some b) none is = absurd (cc)

@@ -5,9 +5,11 @@ use Rattle.std.specs.{Cmp.Lexicographic.pointwise, List.{list_all, list_any}, de
 use Rattle.lil_base.specs.Names.{is_name}
 use Rattle.lil_base.specs.declared.fault.{Place.Place, FaultKind.TheVariants.Twice}
 use Rattle.lil_text.specs.declared.tree.Ident.{Ident}
+use Rattle.lil_types.specs.Types.{Table, is_untold_type}
 use Rattle.lil_report.specs.Told.{Row, row}
 use Rattle.lil_declared.specs.declared.declared.{RProc.RProc, RVar.RVar}
-use Rattle.lil_scope.specs.declared.{thing.{Bound.Bound, Entry.Entry, Thing.Thing}, entering.Around.Around, env.{Env.Env, Wait.Wait}, scope.Scopes.Scopes}
+use Rattle.lil_scope.specs.declared.{thing.{Bound.Bound, Entry.Entry, ExternalProcedure.ExternalProcedure, Thing.Thing}, entering.Around.Around, env.{Env.Env, Wait.Wait}, scope.Scopes.Scopes}
+use Rattle.lil_scope.specs.declared.thing.Thing.TheVariants as t
 
 abbrev pub same : List ℕ → List ℕ → Bool
 same a b = pointwise nat_eq a b
@@ -83,6 +85,14 @@ bound b n e = if is_new b n then b ++ (n, e) ∷ [] else b
 abbrev pub bound_at : List (List (List ℕ × Entry)) → ℕ → List ℕ → Entry → List (List (List ℕ × Entry))
 bound_at bs k n e = if nat_lt k (length bs) then slice_set bs k (bound (block_at bs k) n e) else bs
 
+-- a name that stands in the block stands for another thing from now on
+abbrev pub rebound : List (List ℕ × Entry) → List ℕ → Entry → List (List ℕ × Entry)
+rebound [] n x = []
+rebound (e ∷ es) n x = if same n e.0 then (e.0, x) ∷ es else e ∷ rebound es n x
+
+abbrev pub rebound_at : List (List (List ℕ × Entry)) → ℕ → List ℕ → Entry → List (List (List ℕ × Entry))
+rebound_at bs k n x = if nat_lt k (length bs) then slice_set bs k (rebound (block_at bs k) n x) else bs
+
 abbrev pub with_blocks : Env → List (List (List ℕ × Entry)) → Env
 with_blocks e bs = record e { scopes = record e.scopes { blocks = bs } }
 
@@ -104,6 +114,47 @@ bind_at k e i t = (
 -- a name bound in the block at hand
 abbrev pub bind : Env → Ident → Thing → Env × List Row
 bind e i t = bind_at e.scopes.inner e i t
+
+-- ---- an implementation module begins with the names of its own definition, which stand in no text: they have the offset 0. Its
+-- procedures and its opaque types await to be declared again
+abbrev pub is_in_no_text : Place → Bool
+is_in_no_text p = p.offset == 0
+
+abbrev pub procedure_of : Thing → Option ExternalProcedure
+procedure_of (t.ExternalProcedure p) = Some p
+procedure_of _ = None
+
+abbrev pub type_of : Thing → Option ℕ
+type_of (t.Type n) = Some n
+type_of _ = None
+
+abbrev pub procedure_awaited : Option Entry → Option ExternalProcedure
+procedure_awaited None = None
+procedure_awaited (Some e) = if is_in_no_text e.place then procedure_of e.thing else None
+
+abbrev pub untold_in : Table → Option ℕ → Option ℕ
+untold_in types None = None
+untold_in types (Some n) = if is_untold_type types n then Some n else None
+
+abbrev pub type_awaited : Table → Option Entry → Option ℕ
+type_awaited types None = None
+type_awaited types (Some e) = if is_in_no_text e.place then untold_in types (type_of e.thing) else None
+
+-- a name's entry in the block at hand
+abbrev pub entry_here : Env → List ℕ → Option Entry
+entry_here e n = entry_in (block_at e.scopes.blocks e.scopes.inner) n
+
+-- the procedure of the definition that awaits its heading
+unfoldable pub awaited_procedure : Env → List ℕ → Option ExternalProcedure
+awaited_procedure e n = procedure_awaited (entry_here e n)
+
+-- the opaque type of the definition that awaits its declaration
+unfoldable pub awaited_type : Env → List ℕ → Option ℕ
+awaited_type e n = type_awaited e.types (entry_here e n)
+
+-- the name stands for another thing in the block at hand from now on
+abbrev pub rebind : Env → Ident → Thing → Env
+rebind e i x = with_blocks e (rebound_at e.scopes.blocks e.scopes.inner i.name (entry x i.place))
 
 -- ---- pointers whose target their block declares later: nothing lies behind them until its declarations end, in the blocks
 -- inside of it neither

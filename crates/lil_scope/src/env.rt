@@ -124,7 +124,8 @@ impl Withs {
 
 /// All that is declared so far: the names, the types, the texts of constants, the variables of the module, the procedures and
 /// the variables of each, the pointers that wait for the end of the block at hand and of those around it, the names of the
-/// types that it declares, the records of the WITH around, and the procedure at hand, if it isn't the module's body.
+/// types that it declares, the records of the WITH around, the procedure at hand, if it isn't the module's body, and how many
+/// procedures of its definition the unit hasn't declared again.
 #[derive(Drop)]
 pub struct Env {
     pub scopes: Scopes,
@@ -137,4 +138,5 @@ pub struct Env {
     pub coming: Coming,
     pub withs: Withs,
     pub procedure: Option<usize>,
+    pub awaited: usize,
 }

@@ -1,6 +1,7 @@
 //! What names stand for: blocks of declarations, one inside the other, and all that is declared so far.
 #![tactic(auto)]
 
+mod awaited;
 mod built;
 mod coming;
 mod entering;
@@ -10,6 +11,7 @@ mod names;
 mod scope;
 mod thing;
 
+pub use awaited::{awaited_procedure, awaited_type, rebind};
 pub use built::is_built;
 pub use coming::Coming;
 pub use entering::{

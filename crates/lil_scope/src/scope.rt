@@ -68,6 +68,17 @@ impl Block {
         all_of(alloc, &self.names)
     }
 
+    /// A name that stands here stands for another thing from now on.
+    fn replace(&mut self, name: &Name, entry: Entry)
+        ensures { self.new ≡ spec.rebound self.old name.now entry }
+    {
+        if let Some(at) = self.names.get_index_of(name.as_slice()) {
+            if let Some(of) = self.names.get_index_mut(at) {
+                *of = entry;
+            }
+        }
+    }
+
     /// Binds a name, unless it stands here before: then it answers where.
     pub fn declare(
         &mut self,
@@ -143,14 +154,21 @@ impl Blocks {
         }
     }
 
+    /// A name's entry in a block.
+    pub fn entry(&self, number: usize, name: &Name) -> Option<Entry>
+        ensures { result ≡ spec.entry_in (spec.block_at self.now number) name.now }
+    {
+        match self.list.get(number) {
+            Some(block) => block.entry(name),
+            None => None,
+        }
+    }
+
     pub fn find(&self, number: usize, name: &Name) -> Option<Thing>
         ensures { result ≡ spec.look_in (spec.block_at self.now number) name.now }
     {
-        match self.list.get(number) {
-            Some(block) => match block.entry(name) {
-                Some(entry) => Some(entry.thing),
-                None => None,
-            },
+        match self.entry(number, name) {
+            Some(entry) => Some(entry.thing),
             None => None,
         }
     }
@@ -170,6 +188,15 @@ impl Blocks {
             self.list[number].declare(alloc, name, entry)
         } else {
             Ok(None)
+        }
+    }
+
+    /// A name of a block stands for another thing from now on.
+    pub fn replace(&mut self, number: usize, name: &Name, entry: Entry)
+        ensures { self.new ≡ spec.rebound_at self.old number name.now entry }
+    {
+        if number < self.list.len() {
+            self.list[number].replace(name, entry);
         }
     }
 }

@@ -133,6 +133,29 @@ aimed_by (Some e) t at target = if is_pointer e.form then slice_set t at (record
 abbrev pub aimed : Table → ℕ → ℕ → Table
 aimed t n target = if nat_lt n 16 then t else aimed_by (slice_get t (n - 16)) t (n - 16) target
 
+-- ---- an opaque type that is another in its implementation: which, is told once
+abbrev pub is_untold : TypeForm → Bool
+is_untold (Opaque None) = true
+is_untold _ = false
+
+abbrev pub is_form_in : (TypeForm → Bool) → Option TypeEntry → Bool
+is_form_in test None = false
+is_form_in test (Some e) = test e.form
+
+abbrev pub is_untold_type : Table → ℕ → Bool
+is_untold_type t n = is_form_in is_untold (entry t n)
+
+abbrev pub is_pointer_type : Table → ℕ → Bool
+is_pointer_type t n = is_form_in is_pointer (entry t n)
+
+abbrev pub revealed_by : Option TypeEntry → Table → ℕ → ℕ → Table
+revealed_by None t at other = t
+revealed_by (Some e) t at other = if is_untold e.form then slice_set t at (record e { form = Opaque (Some other) }) else t
+
+-- the table where an opaque type is another one
+abbrev pub revealed : Table → ℕ → ℕ → Table
+revealed t n other = if nat_lt n 16 then t else revealed_by (slice_get t (n - 16)) t (n - 16) other
+
 -- ---- which types go together
 abbrev pub other_of : ℕ → TypeForm → ℕ
 other_of n (Opaque (Some m)) = m

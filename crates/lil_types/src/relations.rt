@@ -3,7 +3,8 @@ ghost use Rattle.std.specs.Option.{option_copied};
 ghost use Rattle.lil_types.specs.Types as spec;
 
 use crate::table::{
-    BOOLEAN, CARDINAL, CHAR, Facts, INTEGER, TypeEntry, TypeForm, TypeId, TypeTable,
+    BOOLEAN, CARDINAL, CHAR, Facts, INTEGER, TypeEntry, TypeForm, TypeId, TypeTable, is_pointer,
+    is_untold,
 };
 
 fn standard(n: TypeId) -> Option<Facts>
@@ -24,6 +25,26 @@ pub fn entry(t: &TypeTable, n: TypeId) -> Option<&TypeEntry>
     ensures { option_copied result ≡ spec.entry t.now n }
 {
     if n < 16 { None } else { t.get(n as usize - 16) }
+}
+
+/// Whether it is a pointer type.
+pub fn is_pointer_type(t: &TypeTable, n: TypeId) -> bool
+    ensures { result ≡ spec.is_pointer_type t.now n }
+{
+    match entry(t, n) {
+        Some(e) => is_pointer(&e.form),
+        None => false,
+    }
+}
+
+/// Whether it is an opaque type, and which type it is in its implementation isn't told.
+pub fn is_untold_type(t: &TypeTable, n: TypeId) -> bool
+    ensures { result ≡ spec.is_untold_type t.now n }
+{
+    match entry(t, n) {
+        Some(e) => is_untold(&e.form),
+        None => false,
+    }
 }
 
 /// What is known of a type, None where the table has no such number.

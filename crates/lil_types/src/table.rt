@@ -1,6 +1,6 @@
 ghost use Rattle.std.specs.Prelude.{◌≡◌, ◌++◌, ◌∷◌, ◌<◌, ◌≤◌, [], length, slice_get, Some, None, OnOk, OnErr, OnSome};
 ghost use Rattle.std.specs.Option.{option_copied};
-ghost use Rattle.lil_types.specs.Types.{facts, span, aimed, meets as spec_meets, is_pointer as is_pointer_form};
+ghost use Rattle.lil_types.specs.Types.{facts, span, aimed, revealed, meets as spec_meets, is_pointer as is_pointer_form, is_untold as is_untold_form};
 
 use crate::fields::Fields;
 use lil_base::{Items, Memory, Name, Text};
@@ -144,10 +144,16 @@ impl Model for TypeTable {
     ghost invariant = { λ t. length t.entries.items ≤ 4294967279 };
 }
 
-fn is_pointer(form: &TypeForm) -> bool
+pub(crate) fn is_pointer(form: &TypeForm) -> bool
     ensures { result ≡ is_pointer_form form.now }
 {
     matches!(form, TypeForm::Pointer(_))
+}
+
+pub(crate) fn is_untold(form: &TypeForm) -> bool
+    ensures { result ≡ is_untold_form form.now }
+{
+    matches!(form, TypeForm::Opaque(None))
 }
 
 impl TypeTable {
@@ -203,6 +209,19 @@ impl TypeTable {
         let at = pointer as usize - 16;
         if at < self.entries.len() && is_pointer(&self.entries[at].form) {
             self.entries[at].form = TypeForm::Pointer(target);
+        }
+    }
+
+    /// Tells which type an opaque type is in its implementation. Where that is told, and of any other type, nothing changes.
+    pub fn reveal(&mut self, opaque: TypeId, other: TypeId)
+        ensures { self.new ≡ revealed self.old opaque other }
+    {
+        if opaque < 16 {
+            return;
+        }
+        let at = opaque as usize - 16;
+        if at < self.entries.len() && is_untold(&self.entries[at].form) {
+            self.entries[at].form = TypeForm::Opaque(Some(other));
         }
     }
 }
